@@ -1,0 +1,7 @@
+-- Beyond the length a `set` leaves the words as they were.
+use borrow.Author.Needs.{needs}
+use Rattle.std.proofs.shelf.Lists.{set-past}
+use Rattle.store.proofs.words.WordStoreStore.write.Needs as need
+
+pub returns-else-i-self : need.returns-else-i-self
+returns-else-i-self c = search (needs, set-past)
