@@ -1,0 +1,15 @@
+pub mod Answers
+pub mod Lists
+pub mod Entries
+pub mod States
+pub mod Splits
+pub mod Turns
+pub mod Upkeep
+pub mod Starts
+pub mod Calls
+pub mod Reference
+pub mod Histories
+pub mod Soundness
+pub mod Jobs
+pub mod Promises
+pub mod Example
