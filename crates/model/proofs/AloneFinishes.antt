@@ -68,7 +68,8 @@ module _ (o : KeyOrder) (c : ℕ) (console : c < 32) where
     on-leaf x Strike None = inl refl
     on-leaf x Enter (Some v) = inl refl
     on-leaf x Enter None =
-        cond-both (ltb (length (x .entries)) (s .fill)) _ (splitFull (j .page) x s) GoesOn (λ _. inl refl) (λ _. splits (j .page) x (freePage s))
+        cond-both (ltb (length (x .entries)) (s .fill)) _ (splitFull (j .page) x s) GoesOn (λ _. inl refl)
+        (λ _. splits (j .page) x (freePage s))
 
     on-live : (x : Page) (l : ℕ) → GoesOn (turnLive o c j x l s)
     on-live x zero = on-leaf x (j .task .kind) _
@@ -120,16 +121,19 @@ own-console js c j consoles own = elim (cases-lt c 32) [
   | inr more ↦ let none = getD-past js c None (omega arith) in absurd (grind arith)
 ]
 
+-- a job alone is finished within as many turns as there are pages, unless a turn finds no free page
 pub alone-within-pages : AloneWithinPages
 alone-within-pages o laws r start cs c j own fine =
     let s = after o cs r .state in
     let inv = after-stands laws r start cs .inv in
     let console = own-console (s .jobs) c j (inv .consoles) own in
     let ok = jobs-at o (view s) (s .jobs) c j (inv .jobs) own in
-    elim (alone-finishes laws c console s (inv .consoles) (inv .written .most) (inv .written .fillLeast) (inv .tree) (inv .chain)
+    let holds : Holding c s = record { job = j; own = own; consoles = inv .consoles } in
+    let w = inv .written in
+    elim (alone-finishes laws c console s (inv .consoles) (w .most) (w .fillLeast) (inv .tree) (inv .chain)
     (split-seen laws s inv) j own ok) [
       | inl done ↦
-          let t = finished-by o c console (done .after) s (record { job = j; own = own; consoles = inv .consoles }) (done .done) in
+          let t = finished-by o c console (done .after) s holds (done .done) in
           record { turns = t .0; within = omega (arith, t .1, done .few); finished = t .2 }
       | inr stopped ↦ absurd (fine (stopped .after) (stopped .few) (ap code (stopped .refusal)))
     ]

@@ -44,11 +44,13 @@ pub record AtLeaf (o : KeyOrder) (f : ℕ → Page) (j : Job) : Type 0 where
   pub within : isPast o (j .task .key) (f (j .page) .end) ≡ false
 
 module _ (o : KeyOrder) (c : ℕ) (console : c < 32) (s : State) (consoles : length (s .jobs) ≡ 32) where
+  -- a console that has the job already
   pub held-already : (j : Job) → jobAt s c ≡ Some j → s ≡ holding c s j
   held-already j e =
       ap (λ (js : List (Option Job)). record { words = s .words; pages = s .pages; fill = s .fill; jobs = js })
       (sym (ap (set (s .jobs) c) (sym e) ∙ set-getD (s .jobs) c None))
 
+  -- the state after a move of the job
   pub moved : (j : Job) (q : ℕ) → move c j q (holding c s j) .after ≡ holding c s (onPage j q)
   moved j q =
       ap (λ (js : List (Option Job)). record { words = s .words; pages = s .pages; fill = s .fill; jobs = js })
@@ -120,6 +122,7 @@ module _ {o : KeyOrder} (laws : Lawful (o .keyed) (o .compared)) (c : ℕ) (cons
   abbrev GoesOn : Job → Type 0
   GoesOn j = AtLeaf o (view s) j ⊎ ((q : ℕ) × Goes j q)
 
+  -- the page on which a job stands can be read
   pub can-read : (j : Job) → hasForm (view s (j .page) .state) ≡ true → readable (s .fill) (view s (j .page)) ≡ true
   can-read j held = readable-held tree (s .pages) (view-within s) most (j .page) held
 

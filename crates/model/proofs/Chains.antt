@@ -57,6 +57,7 @@ abbrev pub Follows : (ℕ → Page) → ℕ → List ℕ → Type 0
 Follows f p [] = (f p .end ≡ None) × (f p .link ≡ 0)
 Follows f p (q ∷ qs) = Joins f p q × Follows f q qs
 
+-- a row of pages, each of which joins the next
 abbrev pub Joined : (ℕ → Page) → List ℕ → Type 0
 Joined f [] = ⊥
 Joined f (p ∷ ps) = Follows f p ps
@@ -71,6 +72,7 @@ abbrev pub Rises : KeyOrder → (ℕ → Page) → List ℕ → Type 0
 Rises o f [] = Unit {0}
 Rises o f (p ∷ ps) = All (λ q. Under o (startOf (f p)) (startOf (f q))) ps × Rises o f ps
 
+-- page p is a live page of level l
 abbrev pub LiveAt : (ℕ → Page) → ℕ → ℕ → Type 0
 LiveAt f l p = (f p .state ≡ Live) × (f p .level ≡ l)
 

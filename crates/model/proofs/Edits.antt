@@ -20,7 +20,7 @@ use Rattle.model.specs.Soundness.{FreeChain}
 use Rattle.model.proofs.Invariant.{BodyOk, LiveOk, GoneOk, Tree, JobsOk, upd, Agrees}
 use Rattle.model.proofs.Frames.{KeepsLive, KeepsHeld, live-kept, gone-kept, jobs-kept, KeptHeld, KeptLive}
 use Rattle.model.proofs.Frames.{live-not-free, live-not-gone}
-use Rattle.model.proofs.Updates.{TwoApart, upd-all, holds-other, chain-other}
+use Rattle.model.proofs.Updates.{upd-all, holds-other, chain-other, upd-apart}
 
 -- a live page with other entries is in order, if they are
 pub live-edited : {o : KeyOrder} (fill : ℕ) (f : ℕ → Page) (x : Page) (es : List Entry) → LiveOk o fill f x
@@ -84,9 +84,7 @@ module _ (f : ℕ → Page) (p : ℕ) (es : List Entry) (live : f p .state ≡ L
         live = upd-all f p x (λ q y. y .state ≡ Live → LiveOk o fill g y)
             (λ _. live-kept o f g edit-keeps-live fill x ok)
             (λ q _ h. live-kept o f g edit-keeps-live fill (f q) (t .live q h));
-        apart = upd-all f p x (λ q y. (r : ℕ) → TwoApart o q y r (g r))
-            (upd-all f p x (TwoApart o p x) (λ _ _ _ ne. absurd (ne refl)) (λ r _. t .apart p r))
-            (λ q _. upd-all f p x (TwoApart o q (f q)) (t .apart q p) (λ r _. t .apart q r));
+        apart = upd-apart f p x o (t .apart) (λ q other lp lq level. t .apart p q lp lq level (λ e. other (sym e)));
         gone = upd-all f p x (λ q y. y .state ≡ Gone → GoneOk o g y)
             (λ h. absurd (live-not-gone live h))
             (λ q _ h. gone-kept o f g edit-keeps-held (f q) (t .gone q h));

@@ -4,6 +4,7 @@ use Rattle.order.specs.Places.{text}
 use Rattle.store.specs.Overlay.{overlay, run}
 use Rattle.model.specs.Example.{WorkedExample}
 
+-- every line of the worked example comes out as it is told
 pub worked-example : WorkedExample
 unfolding text overlay run
 worked-example =

@@ -30,7 +30,7 @@ use Rattle.model.proofs.Invariant.{Tree, JobOk}
 use Rattle.model.proofs.Frames.{free-unheld, live-held}
 use Rattle.model.proofs.Views.{free-in-range}
 use Rattle.model.proofs.Levels.{view-within}
-use Rattle.model.proofs.Split.{half-lengths}
+use Rattle.model.proofs.Split.{half-lengths, HalfLengths}
 use Rattle.model.proofs.Moves.{onPage}
 use Rattle.model.proofs.FreePages.{free-page}
 use Rattle.model.proofs.Alone.{pagesLeft, left-some, left-most, left-most-but}
@@ -115,6 +115,9 @@ module _ {o : KeyOrder} (laws : Lawful (o .keyed) (o .compared)) (c : ℕ) (cons
     (lower : view t (j .page) ≡ shortened (t .fill) (relinked n x)) (upper : view t n ≡ upperPage (t .fill) x)
     (live : x .state ≡ Live) (level : x .level ≡ 0) (inside : isPast o (j .task .key) (x .end) ≡ false)
     (full : length (x .entries) ≡ t .fill) where
+  halves : HalfLengths (t .fill) x
+  halves = half-lengths (t .fill) x least full
+
   lower-live : view t (j .page) .state ≡ Live
   lower-live = subst (λ (y : Page). y .state ≡ Live) (sym lower) live
 
@@ -126,7 +129,7 @@ module _ {o : KeyOrder} (laws : Lawful (o .keyed) (o .compared)) (c : ℕ) (cons
   stays past =
       room-finishes o c console t consoles j readable-lower
       (record { live = lower-live; level = subst (λ (y : Page). y .level ≡ 0) (sym lower) level; within = past })
-      (subst (λ (y : Page). length (y .entries) < t .fill) (sym lower) (half-lengths (t .fill) x least full .lowerRoom))
+      (subst (λ (y : Page). length (y .entries) < t .fill) (sym lower) (halves .lowerRoom))
 
   upper-leaf : AtLeaf o (view t) (onPage j n)
   upper-leaf =
@@ -140,7 +143,7 @@ module _ {o : KeyOrder} (laws : Lawful (o .keyed) (o .compared)) (c : ℕ) (cons
   at-upper =
       room-finishes o c console t consoles (onPage j n)
       (can-read laws c console t consoles most tree (onPage j n) (live-held (upper-leaf .live))) upper-leaf
-      (subst (λ (y : Page). length (y .entries) < t .fill) (sym upper) (half-lengths (t .fill) x least full .upperRoom))
+      (subst (λ (y : Page). length (y .entries) < t .fill) (sym upper) (halves .upperRoom))
 
   goes-right : isPast o (j .task .key) (view t (j .page) .end) ≡ true
       → jobAt (turned o c (suc (suc zero)) (holding c t j)) c ≡ None
@@ -196,7 +199,8 @@ module _ {o : KeyOrder} (laws : Lawful (o .keyed) (o .compared)) (c : ℕ) (cons
         let out = free-unheld free in
         omega (arith, moves-few, left-most-but laws tree (s .pages) (j .page) n (range .0) (range .1) out)
 
-    split-there : (n : ℕ) → s .fill ≤ length (view s (a .page) .entries) → view s n .state ≡ Free → SplitSeen o root s (a .page) n
+    split-there : (n : ℕ) → s .fill ≤ length (view s (a .page) .entries) → view s n .state ≡ Free
+        → SplitSeen o root s (a .page) n
         → turn o c there .after ≡ holding c (split (a .page) (view s (a .page)) n s) (onPage j (a .page))
         → FinishedAfter o c (holding c s j)
     split-there n full free seen splitting =

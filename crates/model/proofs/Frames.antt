@@ -33,16 +33,19 @@ gone-held e = ap hasForm e
 pub free-unheld : {m : PageState} → m ≡ Free → hasForm m ≡ false
 free-unheld e = ap hasForm e
 
--- a page has one state
+-- a page has one state: held is not free
 pub held-not-free : {m : PageState} → hasForm m ≡ true → m ≡ Free → ⊥
 held-not-free held free = grind arith
 
+-- a live page is not free
 pub live-not-free : {m : PageState} → m ≡ Live → m ≡ Free → ⊥
 live-not-free live free = grind arith
 
+-- nor gone
 pub live-not-gone : {m : PageState} → m ≡ Live → m ≡ Gone → ⊥
 live-not-gone live gone = grind arith
 
+-- a gone page is not free
 pub gone-not-free : {m : PageState} → m ≡ Gone → m ≡ Free → ⊥
 gone-not-free gone free = grind arith
 

@@ -27,12 +27,13 @@ pub record Stands (o : KeyOrder) (p : Pair) : Type 0 where
   pub inv : Inv o (p .state)
   pub agrees : Agrees o (view (p .state)) (p .state .jobs) (p .reference)
 
--- what format leaves on a store that is large enough, with a fill that is one
+-- what format leaves on a store that is large enough, with a fill from 4 to 18
 format-made : (w : List ℕ) (fill : ℕ) → 128 ≤ length w → 4 ≤ fill → fill ≤ 18
     → format fill (unmade w) .after ≡ made (pagesIn w) fill (formatWords (pagesIn w) fill w)
 format-made w fill long least most =
-    ap (λ (out : Outcome). out .after)
-    (cond-false _ _ _ (le-ltb (length w) 128 long) ∙ cond-true _ _ _ (and-from _ _ (le-leb 4 fill least) (le-leb fill 18 most)))
+    let large = cond-false _ _ _ (le-ltb (length w) 128 long) in
+    let fits = cond-true _ _ _ (and-from _ _ (le-leb 4 fill least) (le-leb fill 18 most)) in
+    ap (λ (out : Outcome). out .after) (large ∙ fits)
 
 module _ {o : KeyOrder} (laws : Lawful (o .keyed) (o .compared)) where
   start-stands : (r : Pair) → Starts r → Stands o r
@@ -40,7 +41,8 @@ module _ {o : KeyOrder} (laws : Lawful (o .keyed) (o .compared)) where
       let n = pagesIn w in
       let two : 2 ≤ n = omega arith in
       let room : 64 * n ≤ length w = omega arith in
-      subst (λ (s : State). Stands o (record { state = s; reference = empty })) (sym (format-made w fill long least most))
+      let is = sym (format-made w fill long least most) in
+      subst (λ (s : State). Stands o (record { state = s; reference = empty })) is
       (record { inv = inv-new n fill w two room o (omega arith) least most; agrees = agrees-new n fill w two room o })
 
   -- each call keeps the index in order and beside the reference
@@ -53,7 +55,7 @@ module _ {o : KeyOrder} (laws : Lawful (o .keyed) (o .compared)) where
   call-kept p h raise = quiet-kept _ _ (raise-quiet laws (h .inv) (h .agrees))
   call-kept p h sweep = quiet-kept _ _ (sweep-quiet laws (h .inv) (h .agrees))
 
-  -- after every history
+  -- after every history the index is in order beside the reference
   pub after-stands : (r : Pair) → Starts r → (cs : List Call) → Stands o (after o cs r)
   after-stands r start [] = start-stands r start
   after-stands r start (c ∷ cs) =
@@ -64,6 +66,7 @@ module _ {o : KeyOrder} (laws : Lawful (o .keyed) (o .compared)) where
   pub stands-entries : (p : Pair) → Stands o p → entriesOf (p .state) ≡ p .reference .entries
   stands-entries p h = entries-are laws (p .state) (h .inv .tree) (p .state .jobs) (p .reference) (h .agrees)
 
+-- the index answers as the reference does, after every history
 pub answers-as-reference : AnswersAsReference
 answers-as-reference o laws r start cs c =
     let k = call-kept laws (after o cs r) (after-stands laws r start cs) c in

@@ -37,6 +37,7 @@ module _ (o : KeyOrder) where
     pub from : UpTo o (startOf x) (at k)
     pub to : Under o (at k) (endOf x)
 
+  -- a leaf: its keys rise, within its range
   pub record LeafOk (x : Page) : Type 0 where
     pub sorted : Sorted (x .entries)
     pub inside : All (λ e. Covers x (e .key)) (x .entries)
@@ -53,6 +54,7 @@ module _ (o : KeyOrder) where
   InnerEntries f l x (e ∷ es) =
       (e .key ≡ boundKey (x .start)) × Child f l (x .start) (e .value) × Sorted es × All (Divides f l x) es
 
+  -- the entries of a page, by its level
   abbrev pub BodyOk : (ℕ → Page) → Page → ℕ → Type 0
   BodyOk f x zero = LeafOk x
   BodyOk f x (suc l) = InnerEntries f l x (x .entries)
@@ -62,6 +64,7 @@ module _ (o : KeyOrder) where
   LinkOk f x None = x .link ≡ 0
   LinkOk f x (Some k) = Child f (x .level) (Some k) (x .link)
 
+  -- a live page in order, with at most so many entries
   pub record LiveOk (fill : ℕ) (f : ℕ → Page) (x : Page) : Type 0 where
     pub few : length (x .entries) ≤ fill
     pub startKey : KeyBound o (startOf x)
@@ -82,6 +85,7 @@ module _ (o : KeyOrder) where
   abbrev pub Apart : Page → Page → Type 0
   Apart x y = UpTo o (endOf x) (startOf y) ⊎ UpTo o (endOf y) (startOf x)
 
+  -- all pages in order: live ones, gone ones and the root
   pub record Tree (fill root : ℕ) (f : ℕ → Page) : Type 0 where
     pub live : (p : ℕ) → f p .state ≡ Live → LiveOk fill f (f p)
     pub apart : (p q : ℕ) → f p .state ≡ Live → f q .state ≡ Live → f p .level ≡ f q .level → p ≢ q → Apart (f p) (f q)
@@ -98,6 +102,7 @@ module _ (o : KeyOrder) where
     pub held : hasForm (f (j .page) .state) ≡ true
     pub reaches : UpTo o (startOf (f (j .page))) (at (j .task .key))
 
+  -- the jobs of all consoles stand well
   abbrev pub JobsOk : (ℕ → Page) → List (Option Job) → Type 0
   JobsOk f [] = Unit {0}
   JobsOk f (None ∷ js) = JobsOk f js
@@ -110,10 +115,13 @@ pub record Written (s : State) : Type 0 where
   pub most : s .pages ≤ 4096
   pub fillLeast : 4 ≤ s .fill
   pub fillMost : s .fill ≤ 18
-  pub head : pageRun (s .words) 0 ≡ headWords (record { pages = s .pages; fill = s .fill; free = freeHead s; root = root s })
+  pub head :
+      pageRun (s .words) 0
+      ≡ headWords (record { pages = s .pages; fill = s .fill; free = freeHead s; root = root s })
   pub formed : (p : ℕ) → 0 < p → p < s .pages → pageRun (s .words) p ≡ wordsOf (view s p)
   pub uses : (p : ℕ) → 0 < p → p < s .pages → Uses (view s p) (view s p .state)
 
+-- an index in order
 pub record Inv (o : KeyOrder) (s : State) : Type 0 where
   pub written : Written s
   pub tree : Tree o (s .fill) (root s) (view s)
@@ -128,10 +136,12 @@ pub record Holds (f : ℕ → Page) (e : Entry) : Type 0 where
   pub level : f leaf .level ≡ 0
   pub holds : In e (f leaf .entries)
 
+-- the task of a job, if there is one
 abbrev pub taskOnly : Option Job → Option Task
 taskOnly None = None
 taskOnly (Some j) = Some (j .task)
 
+-- the tasks of the jobs, by console
 abbrev pub tasksOnly : List (Option Job) → List (Option Task)
 tasksOnly [] = []
 tasksOnly (j ∷ js) = taskOnly j ∷ tasksOnly js

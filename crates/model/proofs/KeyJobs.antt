@@ -92,6 +92,7 @@ module _ (o : KeyOrder) where
   abbrev pub doneOn : Task → List Entry → Finished
   doneOn t es = record { task = t; answer = answerTo (t .kind) (entryAt o (t .key) es) }
 
+  -- the entries after a task is done on them
   abbrev pub entriesAfter : Task → List Entry → List Entry
   entriesAfter t es = entriesBy t (t .kind) (entryAt o (t .key) es) es
 

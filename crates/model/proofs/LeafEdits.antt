@@ -67,13 +67,10 @@ module _ {o : KeyOrder} (laws : Lawful (o .keyed) (o .compared))
   ]
 
   -- a leaf covers the key of each of its entries
-  pub leaf-covers : (p : ℕ) (e : Entry) → f p .state ≡ Live → f p .level ≡ 0 → In e (f p .entries)
+  leaf-covers : (p : ℕ) (e : Entry) → f p .state ≡ Live → f p .level ≡ 0 → In e (f p .entries)
       → Covers o (f p) (e .key)
   leaf-covers p e lp leaf i =
       all-in (λ (d : Entry). Covers o (f p) (d .key)) (f p .entries) e (leaf-of t p lp leaf .inside) i
-
-  pub leaf-sorted : (p : ℕ) → f p .state ≡ Live → f p .level ≡ 0 → Sorted o (f p .entries)
-  leaf-sorted p lp leaf = leaf-of t p lp leaf .sorted
 
   -- a page that covers a key covers the keys that are the same
   covers-same : (p : ℕ) (k d : Key) → f p .state ≡ Live → IsKey o k → IsKey o d → o .compared d k ≡ Same
@@ -98,7 +95,7 @@ module _ {o : KeyOrder} (laws : Lawful (o .keyed) (o .compared))
     pub elsewhere : (q : ℕ) (d : Entry) → q ≢ p → f q .state ≡ Live → f q .level ≡ 0 → In d (f q .entries)
         → Covers o (f p) (d .key) → ⊥
     elsewhere q d ne lq leafq i c =
-        let key = sorted-key o (f q .entries) d (leaf-sorted q lq leafq) i in
+        let key = sorted-key o (f q .entries) d (leaf-of t q lq leafq .sorted) i in
         ne (only-leaf q p (d .key) lq live (leafq ∙ sym leaf) key (leaf-covers q d lq leafq i) c)
 
     -- an entry of the reference is in the leaf, or the leaf does not cover its key

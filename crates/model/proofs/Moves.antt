@@ -168,13 +168,13 @@ module _ (o : KeyOrder) (f : ℕ → Page) where
   jobs-at (None ∷ js) (suc c) j h e = jobs-at js c j h e
   jobs-at (Some i ∷ js) (suc c) j h e = jobs-at js c j (h .1) e
 
--- the tasks of the jobs, by console
 tasks-set : (js : List (Option Job)) (c : ℕ) (j : Option Job)
     → tasksOnly (set js c j) ≡ set (tasksOnly js) c (taskOnly j)
 tasks-set [] c j = refl
 tasks-set (i ∷ js) zero j = refl
 tasks-set (i ∷ js) (suc c) j = ap (λ ts. taskOnly i ∷ ts) (tasks-set js c j)
 
+-- the task of a console is that of its job
 pub tasks-at : (js : List (Option Job)) (c : ℕ) → getD (tasksOnly js) c None ≡ taskOnly (getD js c None)
 tasks-at [] c = refl
 tasks-at (j ∷ js) zero = refl

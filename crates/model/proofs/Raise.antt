@@ -28,6 +28,7 @@ module _ (f : ℕ → Page) (r n : ℕ) where
   abbrev top : Page
   top = rootOver r (f r)
 
+  -- the pages with the new root
   abbrev pub raised : ℕ → Page
   raised = upd f n (rootOver r (f r))
 

@@ -1,4 +1,4 @@
--- An index in order is a sound store.
+-- An index in order is a sound store, and so it is after every history.
 use mathlib.Core.Path.{_≡_, refl, sym, ap, subst, _∙_}
 use mathlib.Core.List.{List, [], _∷_}
 use Prim.Native.Nat.{ℕ, zero, suc, _≤_, _<_}
@@ -169,13 +169,19 @@ module _ {o : KeyOrder} (laws : Lawful (o .keyed) (o .compared)) {s : State} (in
 
   order-rule : (x : Page) (l : ℕ) → BodyOk o f x l → OrderRule o x l (x .entries)
   order-rule x zero h =
-      (rise o (x .entries) (h .sorted), all-map (λ (e : Entry) (c : Covers o x (e .key)). within o (x .start) (x .end) (e .key) (c .from) (c .to)) (x .entries) (h .inside))
+      (rise o (x .entries) (h .sorted), all-map covered (x .entries) (h .inside))
+    where
+      covered : (e : Entry) → Covers o x (e .key) → NotBefore o (x .start) (e .key) × Ahead o (e .key) (x .end)
+      covered e c = within o (x .start) (x .end) (e .key) (c .from) (c .to)
   order-rule x (suc l) h = inner-order (x .entries) h
     where
+      divided : (d : Entry) → Divides o f l x d → Behind o (x .start) (d .key) × Ahead o (d .key) (x .end)
+      divided d v = behind o (x .start) (x .end) (d .key) (v .after) (v .before)
+
       inner-order : (es : List Entry) → InnerEntries o f l x es → OrderRule o x (suc l) es
       inner-order [] i = tt
       inner-order (e ∷ es) i =
-          (rise o es (i .2), all-map (λ (d : Entry) (v : Divides o f l x d). behind o (x .start) (x .end) (d .key) (v .after) (v .before)) es (i .3))
+          (rise o es (i .2), all-map divided es (i .3))
 
   child-rule : (x : Page) (l : ℕ) → BodyOk o f x l → ChildRule s x l (x .entries)
   child-rule x zero h = tt
@@ -190,6 +196,7 @@ module _ {o : KeyOrder} (laws : Lawful (o .keyed) (o .compared)) {s : State} (in
       let h = inv .tree .gone p e in
       record { held = h .held; level = h .level; earlier = earlier o (f (f p .link) .start) (f p .start) (h .earlier) }
 
+  -- an index in order is sound
   pub sound : Sound o s
   sound =
       record {
@@ -202,5 +209,6 @@ module _ {o : KeyOrder} (laws : Lawful (o .keyed) (o .compared)) {s : State} (in
         free = inv .chain;
       }
 
+-- after every history the store is sound
 pub sound-after-all : SoundAfterAll
 sound-after-all o laws r start cs = sound laws (after-stands laws r start cs .inv)

@@ -53,6 +53,7 @@ pub record HalfLengths (fill : ℕ) (x : Page) : Type 0 where
   pub upperSome : 0 < length (drop (staying fill x) (x .entries))
   pub upperRoom : length (drop (staying fill x) (x .entries)) < fill
 
+-- they do, in every split of a full page
 pub half-lengths : (fill : ℕ) (x : Page) → 4 ≤ fill → length (x .entries) ≡ fill → HalfLengths fill x
 half-lengths fill x least full =
     let t = length-take (staying fill x) (x .entries) in
@@ -79,10 +80,11 @@ module _ (fill : ℕ) (f : ℕ → Page) (p n : ℕ) (can : Splits fill f p n) w
       upd-all (upd f n upper) p lower P low
       (upd-all f n upper (λ q y. q ≢ p → P q y) (λ _. up) (λ q qn qp. other q qp qn))
 
-  -- what the two pages hold then
+  -- what the two pages hold then: the old page
   pub at-lower : afterSplit fill f p n p ≡ lowerPage fill n (f p)
   at-lower = upd-same (upd f n upper) p lower
 
+  -- and the new page
   pub at-upper : afterSplit fill f p n n ≡ upperPage fill (f p)
   at-upper = upd-other (upd f n upper) p n lower two-pages ∙ upd-same f n upper
 

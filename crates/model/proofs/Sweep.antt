@@ -35,6 +35,7 @@ pub record Unreached (f : ℕ → Page) (js : List (Option Job)) (p : ℕ) : Typ
 
 -- page p becomes free, before the chain that begins at h
 module _ (f : ℕ → Page) (p h : ℕ) where
+  -- the pages with page p free
   abbrev pub freed : ℕ → Page
   freed = upd f p (freePageTo h)
 
@@ -153,9 +154,10 @@ module _ (js : List (Option Job)) (P : (ℕ → Page) → ℕ → Type 0)
       let rest = all-unreached-kept f js p h ps (once .0) (all .1) in
       free-each (freed f p h) p ps (once .1) rest (each f p h (all .0) k)
 
--- the free chain after all pages of a list are freed
+-- after all pages of a list are freed
 module _ (f : ℕ → Page) (js : List (Option Job)) (h : ℕ) (ps : List ℕ)
     (once : Once ps) (all : All (Unreached f js) ps) where
+  -- the free chain
   pub sweep-chain : FreeChain f h → FreeChain (freeAll f h ps) (headAfter h ps)
   sweep-chain = free-each js FreeChain (λ g p n u. free-chain g p n (u .gone)) f h ps once all
 
@@ -234,5 +236,6 @@ once-unreached-of s (p ∷ ps) once =
     elim (isUnreached s p) as (λ (b : Bool). Once (cond b (p ∷ unreachedOf s ps) (unreachedOf s ps)))
     [ true ↦ (all-unreached-of (λ q. q ≢ p) s ps (once .0), rest) | false ↦ rest ]
 
+-- each page that sweep finds it finds once
 pub once-unreached : (s : State) → Once (unreachedOf s (numbers s))
 once-unreached s = once-unreached-of s (numbers s) (once-counting 1 (s .pages - 1))

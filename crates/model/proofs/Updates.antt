@@ -33,6 +33,7 @@ module _ (o : KeyOrder) where
   apart-turned x y (inl h) = inr h
   apart-turned x y (inr h) = inl h
 
+  -- so with two pages and their numbers
   pub apart-swap : (q : ℕ) (y : Page) (r : ℕ) (z : Page) → TwoApart q y r z → TwoApart r z q y
   apart-swap q y r z h live live′ level ne = apart-turned y z (h live′ live (sym level) (λ e. ne (sym e)))
 
@@ -84,6 +85,7 @@ module _ (f : ℕ → Page) (p : ℕ) (x : Page) where
     apart-other a other = upd-all (λ (b : ℕ) (y : Page). TwoApart o a (f a) b y)
         (λ la lb level ne. apart-turned o x (f a) (new a other lb la (sym level))) (λ b other′. old a b)
 
+    -- all pages are apart then
     pub upd-apart : AllApart o (upd f p x)
     upd-apart a b = upd-all (λ (m : ℕ) (y : Page). TwoApart o m y b (upd f p x b))
         (apart-changed b) (λ m other. apart-other m other b) a
@@ -151,6 +153,7 @@ module _ (f : ℕ → Page) (n : ℕ) (x : Page) (used : x .state ≢ Free) (fre
             (λ q ne e. elim (all q e) [ inl here ↦ absurd (ne (here ∙ same)) | inr i ↦ i ]);
       }
 
+  -- the chain without its first page
   pub chain-take : FreeChain f n → FreeChain (upd f n x) (f n .link)
   chain-take c = chain-rest n (c .pages) refl (c .linked) (c .once) (c .all)
 

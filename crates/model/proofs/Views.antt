@@ -132,6 +132,7 @@ module _ {s : State} (wr : Written s) where
       | inr ne ↦ view-write-other q ne ∙ sym (cond-false (eqb q p) x (view s q) (ne-eqb q p ne))
     ]
 
+    -- all pages after the write
     pub view-write : view (write p x s) ≡ upd (view s) p x
     view-write = fun-ext view-write-at
 
@@ -141,9 +142,11 @@ module _ {s : State} (wr : Written s) where
         let room = page-room p below in
         word-put-before (s .words) p (wordsOf x) i (omega arith) (omega arith)
 
+    -- the first free page stays
     pub freeHead-write : freeHead (write p x s) ≡ freeHead s
     freeHead-write = word-write 3 (omega arith)
 
+    -- so does the root
     pub root-write : root (write p x s) ≡ root s
     root-write =
         let room = head-room in
@@ -194,6 +197,7 @@ module _ {s : State} (wr : Written s) where
     view-writeHead-at zero = refl
     view-writeHead-at (suc q) = view-beside s 0 (headAs s h r) refl head-room (suc q) (omega arith)
 
+    -- all pages stay
     pub view-writeHead : view (writeHead h r s) ≡ view s
     view-writeHead = fun-ext view-writeHead-at
 
@@ -203,14 +207,17 @@ module _ {s : State} (wr : Written s) where
     word-head : (i : ℕ) → i < 64 → getD (writeHead h r s .words) i 0 ≡ getD (headAs s h r) i 0
     word-head i u = sym (word-zero (writeHead h r s .words) i u) ∙ ap (λ ws. getD ws i 0) head-run
 
+    -- the first free page is the new one
     pub freeHead-writeHead : freeHead (writeHead h r s) ≡ h
     freeHead-writeHead = word-head 3 (omega arith)
 
+    -- so is the root
     pub root-writeHead : root (writeHead h r s) ≡ r
     root-writeHead =
         let room = head-room in
         root-there (writeHead h r s) some-pages (let same = long-head in omega arith) ∙ word-head 4 (omega arith)
 
+    -- the words agree with what is read off them, as before
     pub written-writeHead : Written (writeHead h r s)
     written-writeHead =
         record {

@@ -48,6 +48,7 @@ inv-reads o {s} {f} {h} {r} rd tree chain jobs consoles =
       consoles = consoles;
     }
 
+-- so with what the reference agrees with
 pub agrees-reads : (o : KeyOrder) {s : State} {f : ℕ → Page} {h r : ℕ} {ref : Reference} → Reads s f h r
     → Agrees o f (s .jobs) ref → Agrees o (view s) (s .jobs) ref
 agrees-reads o {s} {ref = ref} rd agrees = subst (λ g. Agrees o g (s .jobs) ref) (sym (rd .seen)) agrees
@@ -78,6 +79,7 @@ module _ {s : State} {f : ℕ → Page} {h r : ℕ} (rd : Reads s f h r) where
         top = root-writeHead (rd .written) h′ r′;
       }
 
+  -- a job changed
   pub reads-job : (c : ℕ) (j : Option Job) → Reads (withJob c j s) f h r
   reads-job c j =
       record { written = written-withJob (rd .written) c j; seen = rd .seen; free = rd .free; top = rd .top }
