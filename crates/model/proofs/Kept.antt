@@ -14,7 +14,7 @@ use Rattle.model.specs.declared.answers.Answer.{Answer}
 use Rattle.model.specs.declared.answers.Answer.the-variants.{NoConsole}
 use Rattle.model.specs.declared.jobs.Job.{Job}
 use Rattle.model.specs.declared.jobs.Task.{Task}
-use Rattle.model.specs.Answers.{code}
+use Rattle.model.specs.Answers.{code, figure}
 use Rattle.model.specs.Entries.{KeyOrder}
 use Rattle.model.specs.States.{State, Outcome, refused, withJob, view}
 use Rattle.model.specs.Turns.{jobAt, move, finish}
@@ -29,7 +29,7 @@ use Rattle.model.proofs.Moves.{SomeJobOk, onPage, jobs-set, agrees-set, agrees
 pub record Kept (o : KeyOrder) (out : Outcome) (rep : Reply) : Type 0 where
   pub inv : Inv o (out .after)
   pub agrees : Agrees o (view (out .after)) (out .after .jobs) (rep .after)
-  pub says : Says (rep .says) (out .answer)
+  pub says : Says (rep .says) (code (out .answer)) (figure (out .answer))
   pub undamaged : code (out .answer) ≢ 8
 
 -- an outcome that leaves the reference as it is

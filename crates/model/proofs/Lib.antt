@@ -52,5 +52,6 @@ pub mod Alone
 pub mod Arriving
 pub mod Finishing
 pub mod AloneFinishes
+pub mod CallPromises
 -- the worked example
 pub mod Example

@@ -12,4 +12,5 @@ pub mod Histories
 pub mod Soundness
 pub mod Jobs
 pub mod Promises
+pub mod CallPromises
 pub mod Example

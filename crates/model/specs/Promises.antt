@@ -23,21 +23,22 @@ Laws o = Lawful (o .keyed) (o .compared)
 
 -- what the reference says is answered, if it says anything: the same code and, but for the page of a withdrawn job,
 -- the same figure
-abbrev pub Says : Option Answer → Answer → Type 0
-Says None a = Unit {0}
-Says (Some b) a = (code b ≡ code a) × (code b ≢ 28 → figure b ≡ figure a)
+abbrev pub Says : Option Answer → ℕ → ℕ → Type 0
+Says None number shown = Unit {0}
+Says (Some b) number shown = (code b ≡ number) × (code b ≢ 28 → figure b ≡ shown)
 
--- a call's answer and the state after it, beside the reference
-pub record AsReference (o : KeyOrder) (c : Call) (r : Pair) (a : Answer) (s : State) : Type 0 where
-  pub says : Says (reply o c r .says) a
+-- a call's code and figure and the state after it, beside the reference
+pub record AsReference (o : KeyOrder) (c : Call) (r : Pair) (number shown : ℕ) (s : State) : Type 0 where
+  pub says : Says (reply o c r .says) number shown
   pub entries : entriesOf s ≡ reply o c r .after .entries
-  pub undamaged : code a ≢ 8
+  pub undamaged : number ≢ 8
 
 -- the index answers as the reference does, holds its entries, and meets no damaged page
 abbrev pub AnswersAsReference : Type 0
 AnswersAsReference =
     (o : KeyOrder) → Laws o → (r : Pair) → Starts r → (cs : List Call) (c : Call)
-    → AsReference o c (after o cs r) (step o c (after o cs r .state) .answer) (step o c (after o cs r .state) .after)
+    → AsReference o c (after o cs r) (code (step o c (after o cs r .state) .answer))
+    (figure (step o c (after o cs r .state) .answer)) (step o c (after o cs r .state) .after)
 
 -- after n turns of one console and no other call
 abbrev pub turned : KeyOrder → ℕ → ℕ → State → State

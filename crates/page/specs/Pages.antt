@@ -84,13 +84,15 @@ pageFrom ws =
       link = getD ws 3 0;
       start = boundFrom ws 4;
       end = boundFrom ws 7;
-      entries = cond (eqb (getD ws 1 0) 0) (entriesFrom (getD ws 2 0) (drop 10 ws)) (startFirst (boundKey (boundFrom ws 4)) (entriesFrom (getD ws 2 0) (drop 10 ws)));
+      entries = cond (eqb (getD ws 1 0) 0) (entriesFrom (getD ws 2 0) (drop 10 ws))
+          (startFirst (boundKey (boundFrom ws 4)) (entriesFrom (getD ws 2 0) (drop 10 ws)));
     }
 
 -- the 64 words of a page, those that are not used 0
 abbrev pub wordsOf : Page → List ℕ
 wordsOf x =
-    (stateWord (x .state) ∷ x .level ∷ length (x .entries) ∷ x .link ∷ []) ++ (boundWords (x .start) ++ (boundWords (x .end)
+    (stateWord (x .state) ∷ x .level ∷ length (x .entries) ∷ x .link ∷ [])
+    ++ (boundWords (x .start) ++ (boundWords (x .end)
     ++ (entryWords (x .entries) ++ replicate (54 - 3 * length (x .entries)) 0)))
 
 abbrev pub headWords : Head → List ℕ

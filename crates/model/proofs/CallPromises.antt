@@ -1,0 +1,51 @@
+-- The promises of one call follow from those of all histories.
+use mathlib.Core.Path.{_≡_, sym, ap, subst, _∙_}
+use mathlib.Core.List.{List, _∷_}
+use Prim.Native.Nat.{ℕ, _<_}
+use Rattle.std.specs.declared.option.Option.the-variants.{Some}
+use Rattle.model.specs.declared.answers.Answer.{Answer}
+use Rattle.model.specs.declared.jobs.Job.{Job}
+use Rattle.model.specs.Answers.{code, figure}
+use Rattle.model.specs.Entries.{KeyOrder}
+use Rattle.model.specs.States.{State, Outcome}
+use Rattle.model.specs.Calls.{Call, step}
+use Rattle.model.specs.Histories.{Pair, Starts, after, entriesOf}
+use Rattle.model.specs.Soundness.{Sound}
+use Rattle.model.specs.Turns.{jobAt}
+use Rattle.model.specs.Promises.{Laws, AsReference, turnAfter, FinishedWithin}
+use Rattle.model.specs.CallPromises.{LikeReference, LikeOthers, SoundThen, EndsAlone}
+use Rattle.model.proofs.Histories.{answers-as-reference}
+use Rattle.model.proofs.SameAnswers.{same-answers}
+use Rattle.model.proofs.Soundness.{sound-after-all}
+use Rattle.model.proofs.AloneFinishes.{alone-within-pages}
+
+-- the state before a call, what the call answers, and the state after it
+module _ (o : KeyOrder) (laws : Laws o) (c : Call) (before now′ : State) (stepped : now′ ≡ step o c before .after) where
+  then-after : (r : Pair) (cs : List Call) → after o cs r .state ≡ before → after o (c ∷ cs) r .state ≡ now′
+  then-after r cs e = ap (λ (s : State). step o c s .after) e ∙ sym stepped
+
+  pub like-reference : (a : Answer) (number shown : ℕ) → a ≡ step o c before .answer → number ≡ code a → shown ≡ figure a
+      → LikeReference o c before number shown now′
+  like-reference a number shown answered is-code is-figure r start cs e =
+      let p = after o cs r in
+      let same : step o c (p .state) .answer ≡ a = ap (λ (s : State). step o c s .answer) e ∙ sym answered in
+      let h = answers-as-reference o laws r start cs c in
+      subst (λ (s : State). AsReference o c p number shown s) (then-after r cs e)
+      (subst (λ (n : ℕ). AsReference o c p n shown (step o c (p .state) .after)) (ap code same ∙ sym is-code)
+      (subst (λ (n : ℕ). AsReference o c p (code (step o c (p .state) .answer)) n (step o c (p .state) .after))
+      (ap figure same ∙ sym is-figure) h))
+
+  pub like-others : LikeOthers o c before now′
+  like-others r q startR startQ cs ds e same =
+      let h = same-answers o laws r q startR startQ (c ∷ cs) ds same in
+      (h .0, ap entriesOf (sym (then-after r cs e)) ∙ h .1)
+
+  pub sound-then : SoundThen o before now′
+  sound-then r start cs e = subst (λ (s : State). Sound o s) (then-after r cs e) (sound-after-all o laws r start (c ∷ cs))
+
+-- a job alone, from the state before its turn
+pub ends-alone : (o : KeyOrder) → Laws o → (c : ℕ) (before : State) → EndsAlone o c before
+ends-alone o laws c before r start cs j e own fine =
+    subst (λ (s : State). FinishedWithin o c (s .pages) s) e
+    (alone-within-pages o laws r start cs c j (ap (λ (s : State). jobAt s c) e ∙ own)
+    (λ n less nine. fine n (subst (λ (s : State). n < s .pages) e less) (subst (λ (s : State). code (turnAfter o c n s) ≡ 9) e nine)))
