@@ -1,10 +1,9 @@
 -- A job comes to no page twice while the pages stay as they are: each move leaves fewer pages to come to.
-use mathlib.Core.Path.{_≡_, refl, sym, subst}
+use mathlib.Core.Path.{_≡_, refl, subst}
 use mathlib.Core.Bool.{Bool, true, false, _&&_, _||_}
-use Prim.Native.Nat.{ℕ, zero, _-_, _≤_, _<_}
+use Prim.Native.Nat.{ℕ, _-_, _≤_, _<_}
 use native.Mathlib.Omega.{arith}
 use lib.Dec.{eqb, ltb, leb}
-use Rattle.std.specs.declared.option.Option.{Option}
 use Rattle.std.specs.declared.option.Option.the-variants.{Some}
 use Rattle.std.proofs.shelf.Ways.{tells}
 use Rattle.std.proofs.shelf.Tests.{both-ways}
@@ -15,12 +14,12 @@ use Rattle.page.specs.declared.pages.PageState.the-variants.{Free, Live, Gone, 
 use Rattle.page.specs.Pages.{Page}
 use Rattle.model.specs.Entries.{KeyOrder}
 use Rattle.model.specs.States.{isLive, isGone, hasForm}
-use Rattle.model.proofs.Bounds.{lowerBound, upperBound, startOf, Under, isUpTo, test-self, test-under, test-below}
-use Rattle.model.proofs.Bounds.{test-above}
-use Rattle.model.proofs.Invariant.{LinkOk, Tree}
+use Rattle.model.proofs.Bounds.{startOf, Under, isUpTo, test-self, test-under, test-below, test-above}
+use Rattle.model.proofs.Invariant.{Tree}
 use Rattle.model.proofs.Counting.{count, count-less, count-some, count-but-zero}
 use Rattle.model.proofs.Frames.{live-held}
 use Rattle.model.proofs.Levels.{Within, held-start}
+use Rattle.model.proofs.Chains.{joins-under, next-joins}
 
 -- a job on a page of state s and level m may come to, or is on, one of state t and level n: from a live page to what
 -- is live ahead on its level, and to lower levels; from a gone page to what is gone behind, and to what is live on its
@@ -158,7 +157,5 @@ module _ {o : KeyOrder} (laws : Lawful (o .keyed) (o .compared)) {fill root : �
   -- so is the link of a live page with an end
   pub right-way : (p : ℕ) (k : Key) → f p .state ≡ Live → f p .end ≡ Some k → Way o (f p) (f (f p .link))
   right-way p k live e =
-      let c = subst (LinkOk o f (f p)) e (tree .live p live .link) in
-      right live (c .live) (c .below)
-      (subst (λ (b : Option Key). Under o (startOf (f p)) (lowerBound b)) (sym (c .starts))
-      (subst (λ (b : Option Key). Under o (startOf (f p)) (upperBound b)) e (tree .live p live .rises)))
+      let next = next-joins laws tree p (f p .level) k (live, refl) e in
+      right live (next .0 .0) (next .0 .1) (joins-under laws tree p (f p .link) (f p .level) (live, refl) (next .1))

@@ -31,7 +31,7 @@ use Rattle.model.specs.Jobs.{finishes}
 use Rattle.model.specs.Promises.{turned, turnAfter, AloneWithinPages}
 use Rattle.model.proofs.Invariant.{Tree, Inv}
 use Rattle.model.proofs.Writes.{reads-split}
-use Rattle.model.proofs.Split.{split-tree, at-lower, at-upper}
+use Rattle.model.proofs.Split.{split-tree, split-lower, split-upper}
 use Rattle.model.proofs.Moves.{onPage, jobs-at}
 use Rattle.model.proofs.FreePages.{can-split}
 use Rattle.model.proofs.Histories.{after-stands}
@@ -45,11 +45,11 @@ pub record Holding (c : ℕ) (s : State) : Type 0 where
 
 module _ (o : KeyOrder) (c : ℕ) (console : c < 32) where
   -- a turn finishes the job, or the console still has one
-  abbrev GoesOn : Outcome → Type 0
-  GoesOn out = (finishes (out .answer) ≡ true) ⊎ Holding c (out .after)
+  abbrev FinishesOrHolds : Outcome → Type 0
+  FinishesOrHolds out = (finishes (out .answer) ≡ true) ⊎ Holding c (out .after)
 
   module _ (s : State) (h : Holding c s) (j : Job) where
-    moves : (p : ℕ) → GoesOn (move c j p s)
+    moves : (p : ℕ) → FinishesOrHolds (move c j p s)
     moves p =
         inr (record {
           job = onPage j p;
@@ -57,45 +57,45 @@ module _ (o : KeyOrder) (c : ℕ) (console : c < 32) where
           consoles = length-set (s .jobs) c (Some (onPage j p)) ∙ h .consoles;
         })
 
-    splits : (p : ℕ) (x : Page) (m : Result ℕ Answer) → GoesOn (splitInto p x m s)
+    splits : (p : ℕ) (x : Page) (m : Result ℕ Answer) → FinishesOrHolds (splitInto p x m s)
     splits p x (Ok n) = inr (record { job = h .job; own = h .own; consoles = h .consoles })
     splits p x (Err a) = inr h
 
-    on-leaf : (x : Page) (kind : Kind) (found : Option ℕ) → GoesOn (turnLeaf o c j x kind found s)
+    on-leaf : (x : Page) (kind : Kind) (found : Option ℕ) → FinishesOrHolds (turnLeaf o c j x kind found s)
     on-leaf x Look (Some v) = inl refl
     on-leaf x Look None = inl refl
     on-leaf x Strike (Some v) = inl refl
     on-leaf x Strike None = inl refl
     on-leaf x Enter (Some v) = inl refl
     on-leaf x Enter None =
-        cond-both (ltb (length (x .entries)) (s .fill)) _ (splitFull (j .page) x s) GoesOn (λ _. inl refl)
+        cond-both (ltb (length (x .entries)) (s .fill)) _ (splitFull (j .page) x s) FinishesOrHolds (λ _. inl refl)
         (λ _. splits (j .page) x (freePage s))
 
-    on-live : (x : Page) (l : ℕ) → GoesOn (turnLive o c j x l s)
+    on-live : (x : Page) (l : ℕ) → FinishesOrHolds (turnLive o c j x l s)
     on-live x zero = on-leaf x (j .task .kind) _
     on-live x (suc l) = moves _
 
-    on-state : (x : Page) (m : PageState) → GoesOn (turnState o c j x m s)
+    on-state : (x : Page) (m : PageState) → FinishesOrHolds (turnState o c j x m s)
     on-state x Gone = moves _
-    on-state x Live = cond-both _ _ _ GoesOn (λ _. moves _) (λ _. on-live x (x .level))
+    on-state x Live = cond-both _ _ _ FinishesOrHolds (λ _. moves _) (λ _. on-live x (x .level))
     on-state x Free = inr h
     on-state x Damaged = inr h
 
-    on-page : (x : Page) → GoesOn (turnPage o c j x s)
-    on-page x = cond-both _ _ _ GoesOn (λ _. on-state x (x .state)) (λ _. inr h)
+    on-page : (x : Page) → FinishesOrHolds (turnPage o c j x s)
+    on-page x = cond-both _ _ _ FinishesOrHolds (λ _. on-state x (x .state)) (λ _. inr h)
 
-  on-job : (s : State) → Holding c s → (own : Option Job) → GoesOn (turnJob o c own s)
+  on-job : (s : State) → Holding c s → (own : Option Job) → FinishesOrHolds (turnJob o c own s)
   on-job s h None = inr h
   on-job s h (Some j) = on-page s h j (view s (j .page))
 
-  goes-on : (s : State) → Holding c s → GoesOn (turn o c s)
-  goes-on s h = cond-both (ltb c 32) _ _ GoesOn (λ _. on-job s h (jobAt s c)) (λ _. inr h)
+  on-turn : (s : State) → Holding c s → FinishesOrHolds (turn o c s)
+  on-turn s h = cond-both (ltb c 32) _ _ FinishesOrHolds (λ _. on-job s h (jobAt s c)) (λ _. inr h)
 
   -- a job that is there no more was finished by one of the turns
   finished-by : (n : ℕ) (s : State) → Holding c s → jobAt (turned o c n s) c ≡ None
       → (k : ℕ) × (k < n) × (finishes (turnAfter o c k s) ≡ true)
   finished-by zero s h none = let own = h .own in absurd (grind arith)
-  finished-by (suc n) s h none = elim (goes-on s h) [
+  finished-by (suc n) s h none = elim (on-turn s h) [
     | inl done ↦ (0, omega arith, done)
     | inr more ↦ let t = finished-by n (turn o c s .after) more none in (suc (t .0), omega (arith, t .1), t .2)
   ]
@@ -109,8 +109,8 @@ split-seen {o} laws s inv p n live full free =
     let can = can-split s inv p n live full free in
     let tree = split-tree (s .fill) (view s) p n can laws (root s) (inv .tree) in
     record {
-      lower = ap (λ (h : ℕ → Page). h p) (rd .seen) ∙ at-lower (s .fill) (view s) p n can;
-      upper = ap (λ (h : ℕ → Page). h n) (rd .seen) ∙ at-upper (s .fill) (view s) p n can;
+      lower = ap (λ (h : ℕ → Page). h p) (rd .seen) ∙ split-lower (s .fill) (view s) p n can;
+      upper = ap (λ (h : ℕ → Page). h n) (rd .seen) ∙ split-upper (s .fill) (view s) p n can;
       tree = subst (Tree o (s .fill) (root s)) (sym (rd .seen)) tree;
     }
 

@@ -1,5 +1,6 @@
 -- Bounds, where pages start and end: a key, or an end of the row of all keys. Their order, and its test.
 use mathlib.Core.Path.{_≡_}
+use mathlib.Core.Logic.{_⊎_, inl, inr}
 use mathlib.Core.Bool.{true, Bool, false}
 use native.Mathlib.Omega.{arith}
 use Rattle.std.specs.declared.option.Option.{Option}
@@ -142,6 +143,14 @@ module _ {o : KeyOrder} (laws : Lawful (o .keyed) (o .compared)) where
   -- of two bounds, the later is not up to the earlier
   pub not-both : (a b : Bound) → KeyBound o a → KeyBound o b → Under o a b → UpTo o b a → ⊥
   not-both a b ka kb ab ba = under-self a ka (under-upto a b a ka kb ka ab ba)
+
+  -- two ranges around one place are not apart
+  pub around : (s t u v k : Bound) → KeyBound o s → KeyBound o t → KeyBound o u → KeyBound o v → KeyBound o k
+      → UpTo o s k → Under o k t → UpTo o u k → Under o k v → UpTo o t u ⊎ UpTo o v s → ⊥
+  around s t u v k ks kt ku kv kk sk kt′ uk kv′ (inl tu) =
+      not-both k u kk ku (under-upto k t u kk kt ku kt′ tu) uk
+  around s t u v k ks kt ku kv kk sk kt′ uk kv′ (inr vs) =
+      not-both k s kk ks (under-upto k v s kk kv ks kv′ vs) sk
 
   -- a bound passes the test with itself
   pub test-self : (a : Bound) → KeyBound o a → isUpTo o a a ≡ true

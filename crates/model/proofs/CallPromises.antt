@@ -13,7 +13,7 @@ use Rattle.model.specs.Histories.{Pair, Starts, after, entriesOf}
 use Rattle.model.specs.Soundness.{Sound}
 use Rattle.model.specs.Turns.{jobAt}
 use Rattle.model.specs.Promises.{Laws, AsReference, turnAfter, FinishedWithin}
-use Rattle.model.specs.CallPromises.{LikeReference, LikeOthers, SoundThen, EndsAlone}
+use Rattle.model.specs.CallPromises.{LikeReference, LikeOthers, SoundThen, EndsAlone, Called}
 use Rattle.model.proofs.Histories.{answers-as-reference}
 use Rattle.model.proofs.SameAnswers.{same-answers}
 use Rattle.model.proofs.Soundness.{sound-after-all}
@@ -24,7 +24,7 @@ module _ (o : KeyOrder) (laws : Laws o) (c : Call) (before now′ : State) (step
   then-after : (r : Pair) (cs : List Call) → after o cs r .state ≡ before → after o (c ∷ cs) r .state ≡ now′
   then-after r cs e = ap (λ (s : State). step o c s .after) e ∙ sym stepped
 
-  pub like-reference : (a : Answer) (number shown : ℕ) → a ≡ step o c before .answer → number ≡ code a → shown ≡ figure a
+  like-reference : (a : Answer) (number shown : ℕ) → a ≡ step o c before .answer → number ≡ code a → shown ≡ figure a
       → LikeReference o c before number shown now′
   like-reference a number shown answered is-code is-figure r start cs e =
       let p = after o cs r in
@@ -35,13 +35,26 @@ module _ (o : KeyOrder) (laws : Laws o) (c : Call) (before now′ : State) (step
       (subst (λ (n : ℕ). AsReference o c p (code (step o c (p .state) .answer)) n (step o c (p .state) .after))
       (ap figure same ∙ sym is-figure) h))
 
-  pub like-others : LikeOthers o c before now′
+  like-others : LikeOthers o c before now′
   like-others r q startR startQ cs ds e same =
       let h = same-answers o laws r q startR startQ (c ∷ cs) ds same in
       (h .0, ap entriesOf (sym (then-after r cs e)) ∙ h .1)
 
-  pub sound-then : SoundThen o before now′
+  sound-then : SoundThen o before now′
   sound-then r start cs e = subst (λ (s : State). Sound o s) (then-after r cs e) (sound-after-all o laws r start (c ∷ cs))
+
+  -- all of it, for a call that takes its step
+  pub called : (a : Answer) (number shown : ℕ) → a ≡ step o c before .answer → number ≡ code a → shown ≡ figure a
+      → Called o c before number shown now′
+  called a number shown answered is-code is-figure =
+      record {
+        number = is-code ∙ ap code answered;
+        shown = is-figure ∙ ap figure answered;
+        state = stepped;
+        reference = like-reference a number shown answered is-code is-figure;
+        others = like-others;
+        sound = sound-then;
+      }
 
 -- a job alone, from the state before its turn
 pub ends-alone : (o : KeyOrder) → Laws o → (c : ℕ) (before : State) → EndsAlone o c before

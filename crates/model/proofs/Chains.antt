@@ -147,13 +147,14 @@ module _ {o : KeyOrder} (laws : Lawful (o .keyed) (o .compared)) {fill root : �
       (left-behind p q l hp hq lt) (self-ahead p l hp)
 
   -- a page with an end joins its neighbour
-  neighbour : (p l : ℕ) (k : Key) → LiveAt f l p → f p .end ≡ Some k → LiveAt f l (f p .link) × Joins f p (f p .link)
-  neighbour p l k hp e =
+  pub next-joins : (p l : ℕ) (k : Key) → LiveAt f l p → f p .end ≡ Some k
+      → LiveAt f l (f p .link) × Joins f p (f p .link)
+  next-joins p l k hp e =
       let c = subst (LinkOk o f (f p)) e (tree .live p (hp .0) .link) in
       ((c .live, c .below ∙ hp .1), record { link = refl; key = k; end = e; start = c .starts })
 
   -- it starts before its neighbour
-  joins-under : (p q l : ℕ) → LiveAt f l p → Joins f p q → Under o (startOf (f p)) (startOf (f q))
+  pub joins-under : (p q l : ℕ) → LiveAt f l p → Joins f p q → Under o (startOf (f p)) (startOf (f q))
   joins-under p q l hp j =
       subst (λ (b : Option Key). Under o (startOf (f p)) (lowerBound b)) (sym (j .start))
       (subst (λ (b : Option Key). Under o (startOf (f p)) (upperBound b)) (j .end) (tree .live p (hp .0) .rises))
@@ -273,7 +274,7 @@ module _ {o : KeyOrder} (laws : Lawful (o .keyed) (o .compared)) (s : State) {fi
       ([], here ∙ none, last)
   walk-step n p hp le ih (Some k) e =
       let q = f p .link in
-      let next = neighbour laws tree p l k hp e in
+      let next = next-joins laws tree p l k hp e in
       let under = joins-under laws tree p q l hp (next .1) in
       let fewer = fewer-ahead laws tree (s .pages) l p q (view-within s) hp (next .0) under in
       let rest = ih q (next .0) (omega arith) in

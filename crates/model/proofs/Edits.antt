@@ -3,7 +3,7 @@ use mathlib.Core.Path.{_≡_, refl, sym, subst, _∙_}
 use mathlib.Core.Logic.{_≢_}
 use mathlib.Core.Bool.{true, false}
 use mathlib.Core.List.{List}
-use Prim.Native.Nat.{ℕ, zero, suc, _≤_}
+use Prim.Native.Nat.{ℕ, suc, _≤_}
 use native.Mathlib.Omega.{arith}
 use lib.ListN.{length}
 use Rattle.std.specs.declared.option.Option.{Option}
@@ -87,13 +87,12 @@ module _ (f : ℕ → Page) (p : ℕ) (es : List Entry) (live : f p .state ≡ L
         apart = upd-apart f p x o (t .apart) (λ q other lp lq level. t .apart p q lp lq level (λ e. other (sym e)));
         gone = upd-all f p x (λ q y. y .state ≡ Gone → GoneOk o g y)
             (λ h. absurd (live-not-gone live h))
-            (λ q _ h. gone-kept o f g edit-keeps-held (f q) (t .gone q h));
+            (λ q _ h. gone-kept o f g (f q) (edit-keeps-held (f q .link)) (t .gone q h));
         rootLive = rootKept .0;
         rootStart = rootKept .2 ∙ t .rootStart;
         rootTop = subst (λ top. (q : ℕ) → hasForm (g q .state) ≡ true → g q .level ≤ top) (sym (rootKept .1))
             (upd-all f p x (λ q y. hasForm (y .state) ≡ true → y .level ≤ f root .level)
             (t .rootTop p) (λ q _. t .rootTop q));
-        zero = upd-all f p x (λ q y. q ≡ 0 → hasForm (y .state) ≡ false)
-            (λ e. subst (λ q. hasForm (f q .state) ≡ false) (sym e) (t .zero))
-            (λ q _ e. subst (λ q. hasForm (f q .state) ≡ false) (sym e) (t .zero)) 0 refl;
+        zero = upd-all f p x (λ q y. hasForm (f q .state) ≡ false → hasForm (y .state) ≡ false) (λ e. e)
+            (λ q _ e. e) 0 (t .zero);
       }

@@ -55,16 +55,16 @@ module _ (o : KeyOrder) (c : ℕ) (console : c < 32) (j : Job) (x : Page) where
       finish c Entered (write (j .page) (withEntries (insert o e (x .entries)) x) t)
 
   -- at its leaf a job is finished, or the leaf has no room and is split
-  at-leaf : (kind : Kind) (found : Option ℕ) (t : State) → length (t .jobs) ≡ 32
+  leaf-finishes : (kind : Kind) (found : Option ℕ) (t : State) → length (t .jobs) ≡ 32
       → (jobAt (turnLeaf o c j x kind found t .after) c ≡ None)
       ⊎ ((t .fill ≤ length (x .entries)) × (turnLeaf o c j x kind found t ≡ splitFull (j .page) x t))
   unfolding entered
-  at-leaf Look (Some v) t consoles = inl (none-left t consoles)
-  at-leaf Look None t consoles = inl (none-left t consoles)
-  at-leaf Strike (Some v) t consoles = inl (none-left t consoles)
-  at-leaf Strike None t consoles = inl (none-left t consoles)
-  at-leaf Enter (Some v) t consoles = inl (none-left t consoles)
-  at-leaf Enter None t consoles = elim (cases-lt (length (x .entries)) (t .fill)) [
+  leaf-finishes Look (Some v) t consoles = inl (none-left t consoles)
+  leaf-finishes Look None t consoles = inl (none-left t consoles)
+  leaf-finishes Strike (Some v) t consoles = inl (none-left t consoles)
+  leaf-finishes Strike None t consoles = inl (none-left t consoles)
+  leaf-finishes Enter (Some v) t consoles = inl (none-left t consoles)
+  leaf-finishes Enter None t consoles = elim (cases-lt (length (x .entries)) (t .fill)) [
     | inl room ↦ inl (ap (λ (r : Outcome). jobAt (r .after) c)
         (cond-true (ltb (length (x .entries)) (t .fill)) (entered t) (splitFull (j .page) x t)
         (lt-ltb (length (x .entries)) (t .fill) room)) ∙ none-left t consoles)
@@ -103,7 +103,7 @@ room-finishes o c console s consoles j can leaf room =
     let last = turn-within o c console s consoles j 0 can (leaf .live) (leaf .within) (leaf .level) in
     let size = length-set (s .jobs) c (Some j) ∙ consoles in
     ap (λ (r : Outcome). jobAt (r .after) c) last
-    ∙ elim (at-leaf o c console j x (j .task .kind) found (holding c s j) size) [
+    ∙ elim (leaf-finishes o c console j x (j .task .kind) found (holding c s j) size) [
       | inl done ↦ done
       | inr full ↦ absurd (omega (arith, full .0))
     ]
@@ -115,21 +115,21 @@ module _ {o : KeyOrder} (laws : Lawful (o .keyed) (o .compared)) (c : ℕ) (cons
     (lower : view t (j .page) ≡ shortened (t .fill) (relinked n x)) (upper : view t n ≡ upperPage (t .fill) x)
     (live : x .state ≡ Live) (level : x .level ≡ 0) (inside : isPast o (j .task .key) (x .end) ≡ false)
     (full : length (x .entries) ≡ t .fill) where
-  halves : HalfLengths (t .fill) x
-  halves = half-lengths (t .fill) x least full
+  lengths : HalfLengths (t .fill) x
+  lengths = half-lengths (t .fill) x least full
 
-  lower-live : view t (j .page) .state ≡ Live
-  lower-live = subst (λ (y : Page). y .state ≡ Live) (sym lower) live
+  lower-is-live : view t (j .page) .state ≡ Live
+  lower-is-live = subst (λ (y : Page). y .state ≡ Live) (sym lower) live
 
   readable-lower : readable (t .fill) (view t (j .page)) ≡ true
-  readable-lower = can-read laws c console t consoles most tree j (live-held lower-live)
+  readable-lower = can-read laws c console t consoles most tree j (live-held lower-is-live)
 
   stays : isPast o (j .task .key) (view t (j .page) .end) ≡ false
       → jobAt (turned o c (suc zero) (holding c t j)) c ≡ None
   stays past =
       room-finishes o c console t consoles j readable-lower
-      (record { live = lower-live; level = subst (λ (y : Page). y .level ≡ 0) (sym lower) level; within = past })
-      (subst (λ (y : Page). length (y .entries) < t .fill) (sym lower) (halves .lowerRoom))
+      (record { live = lower-is-live; level = subst (λ (y : Page). y .level ≡ 0) (sym lower) level; within = past })
+      (subst (λ (y : Page). length (y .entries) < t .fill) (sym lower) (lengths .lowerRoom))
 
   upper-leaf : AtLeaf o (view t) (onPage j n)
   upper-leaf =
@@ -139,20 +139,20 @@ module _ {o : KeyOrder} (laws : Lawful (o .keyed) (o .compared)) (c : ℕ) (cons
         within = subst (λ (y : Page). isPast o (j .task .key) (y .end) ≡ false) (sym upper) inside;
       }
 
-  at-upper : jobAt (turn o c (holding c t (onPage j n)) .after) c ≡ None
-  at-upper =
+  upper-finishes : jobAt (turn o c (holding c t (onPage j n)) .after) c ≡ None
+  upper-finishes =
       room-finishes o c console t consoles (onPage j n)
       (can-read laws c console t consoles most tree (onPage j n) (live-held (upper-leaf .live))) upper-leaf
-      (subst (λ (y : Page). length (y .entries) < t .fill) (sym upper) (halves .upperRoom))
+      (subst (λ (y : Page). length (y .entries) < t .fill) (sym upper) (lengths .upperRoom))
 
   goes-right : isPast o (j .task .key) (view t (j .page) .end) ≡ true
       → jobAt (turned o c (suc (suc zero)) (holding c t j)) c ≡ None
   goes-right past =
       let to = subst (λ (y : Page). y .link ≡ n) (sym lower) refl in
-      let on = ap (λ (r : Outcome). r .after) (turn-past o c console t consoles j readable-lower lower-live past)
+      let on = ap (λ (r : Outcome). r .after) (turn-past o c console t consoles j readable-lower lower-is-live past)
       ∙ (moved o c console t consoles j (view t (j .page) .link)
       ∙ ap (λ (q : ℕ). holding c t (onPage j q)) to) in
-      ap (λ (u : State). jobAt (turn o c u .after) c) on ∙ at-upper
+      ap (λ (u : State). jobAt (turn o c u .after) c) on ∙ upper-finishes
 
   -- at most two turns behind a split the job is finished
   after-split : (k : ℕ) × (k ≤ 2) × (jobAt (turned o c k (holding c t j)) c ≡ None)
@@ -220,7 +220,7 @@ module _ {o : KeyOrder} (laws : Lawful (o .keyed) (o .compared)) (c : ℕ) (cons
       (splits : (p n : ℕ) → view s p .state ≡ Live → s .fill ≤ length (view s p .entries) → view s n .state ≡ Free
       → SplitSeen o root s p n) where
     finish-holding : (j : Job) → Arrives o c s j → FinishedAfter o c (holding c s j) ⊎ Stopped o c (holding c s j)
-    finish-holding j a = elim (at-leaf o c console job x (j .task .kind) found (there j a) size) [
+    finish-holding j a = elim (leaf-finishes o c console job x (j .task .kind) found (there j a) size) [
       | inl done ↦ inl (finished-there j a (ap (λ (r : Outcome). jobAt (r .after) c) last ∙ done))
       | inr full ↦ elim (free-page s chain) [
         | inl none ↦ inr (stopped-there j a (ap (λ (r : Outcome). r .answer) (last ∙ (full .1 ∙ into none))))

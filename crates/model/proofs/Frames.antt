@@ -130,9 +130,9 @@ module _ (o : KeyOrder) (f g : ℕ → Page) where
       }
 
   -- so does a gone page that is not changed
-  pub gone-kept : KeepsHeld f g → (x : Page) → GoneOk o f x → GoneOk o g x
-  gone-kept keep x h =
-      let k = keep (x .link) (h .held) in
+  pub gone-kept : (x : Page) → KeptHeld (f (x .link)) (g (x .link)) → GoneOk o f x → GoneOk o g x
+  gone-kept x keep h =
+      let k = keep (h .held) in
       record {
         none = h .none;
         startKey = h .startKey;
@@ -141,17 +141,18 @@ module _ (o : KeyOrder) (f g : ℕ → Page) where
         earlier = subst (λ (b : Option Key). Under o (lowerBound b) (startOf x)) (sym (k .2)) (h .earlier);
       }
 
-  job-kept : KeepsHeld f g → (j : Job) → JobOk o f j → JobOk o g j
-  job-kept keep j h =
-      let k = keep (j .page) (h .held) in
+  -- a job on a page that stays held stands well
+  pub job-kept : (j : Job) → KeptHeld (f (j .page)) (g (j .page)) → JobOk o f j → JobOk o g j
+  job-kept j keep h =
+      let k = keep (h .held) in
       let near = λ (b : Option Key). UpTo o (lowerBound b) (at (j .task .key)) in
       record { key = h .key; held = k .0; reaches = subst near (sym (k .2)) (h .reaches) }
 
-  -- and the jobs of all consoles
+  -- and so do the jobs of all consoles
   pub jobs-kept : KeepsHeld f g → (js : List (Option Job)) → JobsOk o f js → JobsOk o g js
   jobs-kept keep [] h = h
   jobs-kept keep (None ∷ js) h = jobs-kept keep js h
-  jobs-kept keep (Some j ∷ js) h = (job-kept keep j (h .0), jobs-kept keep js (h .1))
+  jobs-kept keep (Some j ∷ js) h = (job-kept j (keep (j .page)) (h .0), jobs-kept keep js (h .1))
 
 -- the free chain does not see a change of pages that are not free
 pub linked-kept : (f g : ℕ → Page) → ((q : ℕ) → f q .state ≡ Free → g q ≡ f q)

@@ -18,8 +18,7 @@ use Rattle.model.specs.Lists.{All, In}
 use Rattle.model.specs.Entries.{KeyOrder}
 use Rattle.model.specs.Turns.{withEntries}
 use Rattle.model.specs.Reference.{Reference}
-use Rattle.model.proofs.Bounds.{Bound, at, startOf, endOf, IsKey, KeyBound, Under, UpTo, upto-under, upto-trans}
-use Rattle.model.proofs.Bounds.{not-both}
+use Rattle.model.proofs.Bounds.{at, startOf, endOf, IsKey, UpTo, upto-under, upto-trans, around}
 use Rattle.model.proofs.Invariant.{upd, Sorted, Covers, LeafOk, BodyOk, LiveOk, Tree, Holds, Agrees}
 use Rattle.model.proofs.Lists.{all-in, all-map, sorted-key}
 use Rattle.model.proofs.Frames.{held-at}
@@ -42,12 +41,6 @@ leaf-edited {o} fill f x es h leaf few sorted inside =
 abbrev pub edited : (ℕ → Page) → ℕ → List Entry → ℕ → Page
 edited f p es = upd f p (withEntries es (f p))
 
--- two ranges that do not overlap cover no key both
-clear : {o : KeyOrder} (laws : Lawful (o .keyed) (o .compared)) (k s e : Bound)
-    → KeyBound o k → KeyBound o s → KeyBound o e
-    → UpTo o e s → UpTo o s k → Under o k e → ⊥
-clear laws k s e kk ks ke es sk ke′ = not-both laws k e kk ke ke′ (upto-trans laws e s k ke ks kk es sk)
-
 module _ {o : KeyOrder} (laws : Lawful (o .keyed) (o .compared))
     {fill root : ℕ} {f : ℕ → Page} (t : Tree o fill root f) where
   -- at most one live page of a level covers a key
@@ -58,12 +51,9 @@ module _ {o : KeyOrder} (laws : Lawful (o .keyed) (o .compared))
     | inr ne ↦
         let x = t .live p lp in
         let y = t .live q lq in
-        elim (t .apart p q lp lq level ne) [
-          | inl h ↦ absurd
-              (clear laws (at k) (startOf (f q)) (endOf (f p)) kk (y .startKey) (x .endKey) h (cq .from) (cp .to))
-          | inr h ↦ absurd
-              (clear laws (at k) (startOf (f p)) (endOf (f q)) kk (x .startKey) (y .endKey) h (cp .from) (cq .to))
-        ]
+        absurd (around laws (startOf (f p)) (endOf (f p)) (startOf (f q)) (endOf (f q)) (at k)
+        (x .startKey) (x .endKey) (y .startKey) (y .endKey) kk (cp .from) (cp .to) (cq .from) (cq .to)
+        (t .apart p q lp lq level ne))
   ]
 
   -- a leaf covers the key of each of its entries
@@ -92,14 +82,14 @@ module _ {o : KeyOrder} (laws : Lawful (o .keyed) (o .compared))
   module _ {js : List (Option Job)} {r : Reference} (a : Agrees o f js r)
       (p : ℕ) (live : f p .state ≡ Live) (leaf : f p .level ≡ 0) where
     -- an entry of the reference that lies in another leaf is not covered
-    pub elsewhere : (q : ℕ) (d : Entry) → q ≢ p → f q .state ≡ Live → f q .level ≡ 0 → In d (f q .entries)
+    elsewhere : (q : ℕ) (d : Entry) → q ≢ p → f q .state ≡ Live → f q .level ≡ 0 → In d (f q .entries)
         → Covers o (f p) (d .key) → ⊥
     elsewhere q d ne lq leafq i c =
         let key = sorted-key o (f q .entries) d (leaf-of t q lq leafq .sorted) i in
         ne (only-leaf q p (d .key) lq live (leafq ∙ sym leaf) key (leaf-covers q d lq leafq i) c)
 
     -- an entry of the reference is in the leaf, or the leaf does not cover its key
-    pub place : (d : Entry) → In d (r .entries) → In d (f p .entries) ⊎ (Covers o (f p) (d .key) → ⊥)
+    place : (d : Entry) → In d (r .entries) → In d (f p .entries) ⊎ (Covers o (f p) (d .key) → ⊥)
     place d i =
         let h = a .from d i in
         elim (cases-eq (h .leaf) p) [

@@ -52,6 +52,7 @@ pub mod Alone
 pub mod Arriving
 pub mod Finishing
 pub mod AloneFinishes
+-- the promises of one call
 pub mod CallPromises
 -- the worked example
 pub mod Example

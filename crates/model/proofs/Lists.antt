@@ -81,7 +81,7 @@ in-drop (suc n) (y ∷ xs) x i = inr (in-drop n xs x i)
 
 module _ (o : KeyOrder) where
   -- the entry d comes before e
-  abbrev Precedes : Entry → Entry → Type 0
+  abbrev pub Precedes : Entry → Entry → Type 0
   Precedes d e = o .compared (d .key) (e .key) ≡ Before
 
   -- the keys of a sorted list are keys

@@ -19,7 +19,7 @@ use Rattle.model.specs.Entries.{KeyOrder}
 use Rattle.model.specs.States.{hasForm}
 use Rattle.model.specs.Soundness.{Child}
 use Rattle.model.proofs.Bounds.{Bound, at, startOf, endOf, lowerBound, upperBound, IsKey, KeyBound, Under, UpTo}
-use Rattle.model.proofs.Bounds.{under-upto, not-both, under-is-upto, under-self, upto-self}
+use Rattle.model.proofs.Bounds.{not-both, under-is-upto, under-self, upto-self, around}
 use Rattle.model.proofs.Invariant.{Sorted, Divides, InnerEntries, LinkOk, Tree}
 use Rattle.model.proofs.Lists.{all-in, all-from, all-map, all-append, all-left, all-right}
 use Rattle.model.proofs.Levels.{inner-of}
@@ -51,7 +51,7 @@ record Cut (o : KeyOrder) (f : ℕ → Page) (l : ℕ) (x : Page) (d e : Entry) 
   others : All (λ c. c .value ≢ e .value) es
 
 -- a child c one level below x starts within x
-record Within (o : KeyOrder) (f : ℕ → Page) (l : ℕ) (x : Page) (c : ℕ) : Type 0 where
+record StartsWithin (o : KeyOrder) (f : ℕ → Page) (l : ℕ) (x : Page) (c : ℕ) : Type 0 where
   live : f c .state ≡ Live
   below : f c .level ≡ l
   from : UpTo o (startOf x) (startOf (f c))
@@ -69,15 +69,7 @@ module _ {o : KeyOrder} (laws : Lawful (o .keyed) (o .compared)) where
   key-differs : (a b : Key) → IsKey o a → o .compared a b ≡ Before → b ≢ a
   key-differs a b ka u e = let i = laws .itself a ka in let w : Before ≡ Same = cc in grind arith
 
-  -- two ranges around one place are not apart
-  around : (s t u v k : Bound) → KeyBound o s → KeyBound o t → KeyBound o u → KeyBound o v → KeyBound o k
-      → UpTo o s k → Under o k t → UpTo o u k → Under o k v → UpTo o t u ⊎ UpTo o v s → ⊥
-  around s t u v k ks kt ku kv kk sk kt′ uk kv′ (inl tu) =
-      not-both laws k u kk ku (under-upto laws k t u kk kt ku kt′ tu) uk
-  around s t u v k ks kt ku kv kk sk kt′ uk kv′ (inr vs) =
-      not-both laws k s kk ks (under-upto laws k v s kk kv ks kv′ vs) sk
-
-  -- nor are two with the same end
+  -- two ranges with the same end are not apart
   same-end : (s u k : Bound) → KeyBound o s → KeyBound o u → KeyBound o k → Under o s k → Under o u k
       → UpTo o k u ⊎ UpTo o k s → ⊥
   same-end s u k ks ku kk sk uk (inl h) = not-both laws u k ku kk uk h
@@ -103,7 +95,7 @@ module _ {o : KeyOrder} (laws : Lawful (o .keyed) (o .compared)) where
 
   module _ (f : ℕ → Page) (l : ℕ) (x : Page) where
     first-within : (c : ℕ) → KeyBound o (startOf x) → Under o (startOf x) (endOf x) → Child f l (x .start) c
-        → Within o f l x c
+        → StartsWithin o f l x c
     first-within c ks rises h =
         record {
           live = h .live;
@@ -112,7 +104,7 @@ module _ {o : KeyOrder} (laws : Lawful (o .keyed) (o .compared)) where
           to = subst (λ v. Under o (lowerBound v) (endOf x)) (sym (h .starts)) rises;
         }
 
-    later-within : (e : Entry) → Divides o f l x e → Within o f l x (e .value)
+    later-within : (e : Entry) → Divides o f l x e → StartsWithin o f l x (e .value)
     later-within e h =
         let starts = sym (h .child .starts) in
         record {
@@ -125,7 +117,7 @@ module _ {o : KeyOrder} (laws : Lawful (o .keyed) (o .compared)) where
 
     -- each child starts within its parent
     all-within : (es : List Entry) → KeyBound o (startOf x) → Under o (startOf x) (endOf x) → InnerEntries o f l x es
-        → All (λ e. Within o f l x (e .value)) es
+        → All (λ e. StartsWithin o f l x (e .value)) es
     all-within [] ks rises h = absurd h
     all-within (e ∷ es) ks rises h = (first-within (e .value) ks rises (h .1), all-map later-within es (h .3))
 
@@ -178,12 +170,12 @@ module _ {o : KeyOrder} (laws : Lawful (o .keyed) (o .compared)) where
   module _ (fill root : ℕ) (f : ℕ → Page) (t : Tree o fill root f) where
     -- a page is not the child of two
     one-parent : (p q l m b : ℕ) → f p .state ≡ Live → f q .state ≡ Live → f p .level ≡ suc l → f q .level ≡ suc m
-        → Within o f l (f p) b → Within o f m (f q) b → q ≢ p → ⊥
+        → StartsWithin o f l (f p) b → StartsWithin o f m (f q) b → q ≢ p → ⊥
     one-parent p q l m b lp lq ep eq wp wq ne =
         let hp = t .live p lp in
         let hq = t .live q lq in
         let lm : l ≡ m = sym (wp .below) ∙ wq .below in
-        around (startOf (f p)) (endOf (f p)) (startOf (f q)) (endOf (f q)) (startOf (f b))
+        around laws (startOf (f p)) (endOf (f p)) (startOf (f q)) (endOf (f q)) (startOf (f b))
         (hp .startKey) (hp .endKey) (hq .startKey) (hq .endKey) (t .live b (wp .live) .startKey)
         (wp .from) (wp .to) (wq .from) (wq .to) (t .apart p q lp lq (ep ∙ ap suc lm ∙ sym eq) (λ e. ne (sym e)))
 
@@ -246,7 +238,7 @@ module _ {o : KeyOrder} (laws : Lawful (o .keyed) (o .compared)) where
           parents = λ q m ne lq eq.
               let hq = t .live q lq in
               all-map (λ y w v. one-parent p q l m (e .value) lp lq ep eq (later-within f l (f p) e (c .right))
-              (subst (Within o f m (f q)) v w) ne) (f q .entries)
+              (subst (StartsWithin o f m (f q)) v w) ne) (f q .entries)
               (all-within f m (f q) (f q .entries) (hq .startKey) (hq .rises) (inner-of t q m lq eq));
           lefts = λ q j ne lq endq w.
               one-left (d .value) q (e .value) (e .key) j (a .live) lq (b .below ∙ sym (a .below)) (b .starts)

@@ -225,7 +225,8 @@ module _ {o : KeyOrder} (laws : Lawful (o .keyed) (o .compared)) (fill root : �
         apart = apart-any;
         gone = each-page (λ q x. x .state ≡ Gone → GoneOk o g x)
             (λ h. absurd (let w = c .aLive in grind arith)) (λ h. right-ok)
-            (λ h. absurd (let w = c .pLive in grind arith)) (λ q na nb np h. gone-kept o f g held (f q) (t .gone q h));
+            (λ h. absurd (let w = c .pLive in grind arith))
+            (λ q na nb np h. gone-kept o f g (f q) (held (f q .link)) (t .gone q h));
         rootLive = r .0;
         rootStart = r .2 ∙ t .rootStart;
         rootTop = λ q h. let u = face q in let v = t .rootTop q (sym (u .0) ∙ h) in let w = r .1 in omega arith;

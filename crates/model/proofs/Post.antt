@@ -121,15 +121,15 @@ module _ {o : KeyOrder} (laws : Lawful (o .keyed) (o .compared)) where
       )
 
   -- an end before what follows is before all that follow, and before the page's end
-  ends-before : (f : ℕ → Page) (l : ℕ) (x : Page) (k : Key) → IsKey o k → KeyBound o (endOf x) → (rs : List Entry)
+  short-before : (f : ℕ → Page) (l : ℕ) (x : Page) (k : Key) → IsKey o k → KeyBound o (endOf x) → (rs : List Entry)
       → Sorted o rs → All (Divides o f l x) rs → endsShort o (Some k) (following (x .end) rs) ≡ true
       → All (λ c. Before′ o k (c .key)) rs × Under o (at k) (endOf x)
-  ends-before f l x k key endKey [] s all short = (tt, before-end (x .end) short)
+  short-before f l x k key endKey [] s all short = (tt, before-end (x .end) short)
     where
       before-end : (end : Option Key) → endsShort o (Some k) end ≡ true → Under o (at k) (upperBound end)
       before-end None h = tt
       before-end (Some t) h = grind arith
-  ends-before f l x k key endKey (c ∷ rs) s all short =
+  short-before f l x k key endKey (c ∷ rs) s all short =
       let first : Before′ o k (c .key) = grind arith in
       let others : All (λ d. Before′ o k (d .key)) rs =
       before-all laws k (c .key) rs key (s .0) (sorted-keys o rs (s .2)) first (s .1) in
@@ -140,7 +140,7 @@ module _ {o : KeyOrder} (laws : Lawful (o .keyed) (o .compared)) where
       → InnerEntries o f l x (e ∷ rs) → Next o f l (x .start) (d .key) (d .value)
       → endsShort o (Some (d .key)) (following (x .end) rs) ≡ true → InnerEntries o f l x (e ∷ d ∷ rs)
   posted-first f l x e d rs endKey b next short =
-      let ahead = ends-before f l x (d .key) (next .key) endKey rs (b .2) (b .3) short in
+      let ahead = short-before f l x (d .key) (next .key) endKey rs (b .2) (b .3) short in
       let new : Divides o f l x d = record { after = next .after; before = ahead .1; child = next .child } in
       (b .0, b .1, (next .key, ahead .0, b .2), (new, b .3))
 
@@ -153,7 +153,7 @@ module _ {o : KeyOrder} (laws : Lawful (o .keyed) (o .compared)) where
   posted-later f l x a ls e d rs startKey endKey b next short =
       let sorted = sorted-right o ls (e ∷ rs) (b .2) in
       let divides = all-right (Divides o f l x) ls (e ∷ rs) (b .3) in
-      let ahead = ends-before f l x (d .key) (next .key) endKey rs (sorted .2) (divides .1) short in
+      let ahead = short-before f l x (d .key) (next .key) endKey rs (sorted .2) (divides .1) short in
       let after = under-trans laws (startOf x) (at (e .key)) (at (d .key)) startKey (sorted .0) (next .key)
       (divides .0 .after) (next .after) in
       let new : Divides o f l x d = record { after = after; before = ahead .1; child = next .child } in (

@@ -3,7 +3,7 @@ use mathlib.Core.Path.{_≡_, refl, sym, subst}
 use mathlib.Core.Logic.{_≢_}
 use mathlib.Core.Bool.{true, false}
 use mathlib.Core.List.{List}
-use Prim.Native.Nat.{ℕ, zero, suc, _+_, _≤_}
+use Prim.Native.Nat.{ℕ, suc, _+_, _≤_}
 use native.Mathlib.Numerals.{add-one}
 use native.Mathlib.Omega.{arith}
 use Rattle.std.specs.declared.option.Option.{Option}
@@ -84,7 +84,7 @@ module _ (f : ℕ → Page) (r n : ℕ) where
                 (λ q other live lq level. absurd (below-root fill t q lq (sym level)));
             gone = upd-all f n top (λ (q : ℕ) (y : Page). y .state ≡ Gone → GoneOk o raised y)
                 (λ e. absurd (live-not-gone refl e))
-                (λ q ne e. gone-kept o f raised raise-keeps-held (f q) (t .gone q e));
+                (λ q ne e. gone-kept o f raised (f q) (raise-keeps-held (f q .link)) (t .gone q e));
             rootLive = subst (λ (y : Page). y .state ≡ Live) here refl;
             rootStart = subst (λ (y : Page). y .start ≡ None) here refl;
             rootTop = λ q held. subst (λ (y : Page). raised q .level ≤ y .level) here (raise-top fill t q held);

@@ -18,7 +18,7 @@ use Rattle.model.specs.Reference.{Reference}
 use Rattle.model.specs.Histories.{entriesIn, entriesOf, levelPages}
 use Rattle.model.proofs.Bounds.{at, startOf, endOf, Under, UpTo, under-upto, under-is-upto}
 use Rattle.model.proofs.Invariant.{Sorted, Covers, Tree, Holds, Agrees}
-use Rattle.model.proofs.Lists.{all-in, all-from, in-left, in-right, in-append, sorted-append, sorted-key}
+use Rattle.model.proofs.Lists.{all-in, all-from, in-left, in-right, in-append, sorted-append, sorted-key, Precedes}
 use Rattle.model.proofs.Levels.{leaf-of}
 use Rattle.model.proofs.Chains.{Rises, LiveAt, LevelChain, ends-before, level-pages}
 use Rattle.model.proofs.Entries.{sorted-same}
@@ -61,20 +61,16 @@ module _ {o : KeyOrder} (laws : Lawful (o .keyed) (o .compared)) (s : State) {fi
       (ends-before laws tree p q 0 hp hq ne le) in
       under-upto laws (at (d .key)) (startOf (f q)) (at (e .key)) kd (okq .startKey) ke until starts
 
-  -- the entry d comes before e
-  abbrev Precedes : Entry → Entry → Type 0
-  Precedes d e = o .compared (d .key) (e .key) ≡ Before
-
   -- the entries of leaves in a row are in order
   row-sorted : (ps : List ℕ) → All (LiveAt f 0) ps → Once ps → Rises o f ps → Sorted o (entriesIn s ps)
   row-sorted [] only once rises = tt
   row-sorted (p ∷ ps) only once rises =
       let rest = row-sorted ps (only .1) (once .1) (rises .1) in
       sorted-append o (f p .entries) (entriesIn s ps) (leaf-of tree p (only .0 .0) (only .0 .1) .sorted) rest
-      (all-from (λ (d : Entry). All (Precedes d) (entriesIn s ps)) (f p .entries)
-      (λ d ind. all-from (Precedes d) (entriesIn s ps) (before d ind)))
+      (all-from (λ (d : Entry). All (Precedes o d) (entriesIn s ps)) (f p .entries)
+      (λ d ind. all-from (Precedes o d) (entriesIn s ps) (before d ind)))
     where
-      before : (d : Entry) → In d (f p .entries) → (e : Entry) → In e (entriesIn s ps) → Precedes d e
+      before : (d : Entry) → In d (f p .entries) → (e : Entry) → In e (entriesIn s ps) → Precedes o d e
       before d ind e ine =
           let r = row-page s ps e ine in
           let lt = all-in (λ (q : ℕ). Under o (startOf (f p)) (startOf (f q))) ps (r .0) (rises .0) (r .1) in

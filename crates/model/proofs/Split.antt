@@ -81,12 +81,12 @@ module _ (fill : ℕ) (f : ℕ → Page) (p n : ℕ) (can : Splits fill f p n) w
       (upd-all f n upper (λ q y. q ≢ p → P q y) (λ _. up) (λ q qn qp. other q qp qn))
 
   -- what the two pages hold then: the old page
-  pub at-lower : afterSplit fill f p n p ≡ lowerPage fill n (f p)
-  at-lower = upd-same (upd f n upper) p lower
+  pub split-lower : afterSplit fill f p n p ≡ lowerPage fill n (f p)
+  split-lower = upd-same (upd f n upper) p lower
 
   -- and the new page
-  pub at-upper : afterSplit fill f p n n ≡ upperPage fill (f p)
-  at-upper = upd-other (upd f n upper) p n lower two-pages ∙ upd-same f n upper
+  pub split-upper : afterSplit fill f p n n ≡ upperPage fill (f p)
+  split-upper = upd-other (upd f n upper) p n lower two-pages ∙ upd-same f n upper
 
   at-other : (q : ℕ) → q ≢ p → q ≢ n → g q ≡ f q
   at-other q qp qn = upd-other (upd f n upper) p q lower qp ∙ upd-other f n q upper qn
@@ -118,8 +118,8 @@ module _ (fill : ℕ) (f : ℕ → Page) (p n : ℕ) (can : Splits fill f p n) w
   half-holds : (e : Entry) → f p .level ≡ 0 → In e (f p .entries) → Holds g e
   half-holds e leaf i =
       elim (in-take-drop (staying fill (f p)) (f p .entries) e i) [
-        | inl l ↦ held-at g p lower e at-lower (can .live) leaf l
-        | inr r ↦ held-at g n upper e at-upper refl leaf r
+        | inl l ↦ held-at g p lower e split-lower (can .live) leaf l
+        | inr r ↦ held-at g n upper e split-upper refl leaf r
       ]
 
   still-holds : (e : Entry) → Holds f e → Holds g e
@@ -174,7 +174,7 @@ module _ (fill : ℕ) (f : ℕ → Page) (p n : ℕ) (can : Splits fill f p n) w
     lower-ok : LiveOk o fill g lower
     lower-ok =
         let room = split-lengths .lowerRoom in
-        let new = child-at g n upper (f p .level) (Some (cutKey fill (f p))) at-upper refl refl refl in
+        let new = child-at g n upper (f p .level) (Some (cutKey fill (f p))) split-upper refl refl refl in
         lower-live laws fill g (f p) whole _ _ parts (split-lengths .lowerSome) (split-lengths .upperSome) n
         (omega arith) new
 
@@ -219,7 +219,7 @@ module _ (fill : ℕ) (f : ℕ → Page) (p n : ℕ) (can : Splits fill f p n) w
           gone = each (λ q y. y .state ≡ Gone → GoneOk o g y)
               (λ gone. absurd (live-not-gone (can .live) gone))
               (λ gone. absurd (live-not-gone refl gone))
-              (λ q qp qn gone. gone-kept o f g split-keeps-held (f q) (t .gone q gone));
+              (λ q qp qn gone. gone-kept o f g (f q) (split-keeps-held (f q .link)) (t .gone q gone));
           rootLive = rootKept .0;
           rootStart = rootKept .2 ∙ t .rootStart;
           rootTop = subst (λ top. (q : ℕ) → hasForm (g q .state) ≡ true → g q .level ≤ top) (sym (rootKept .1))

@@ -3,7 +3,7 @@ use mathlib.Core.Path.{_≡_, refl, sym, subst, _∙_}
 use mathlib.Core.Logic.{_≢_, inl, inr}
 use mathlib.Core.Bool.{Bool, true, false, cond, not, _&&_}
 use mathlib.Core.List.{List, [], _∷_}
-use Prim.Native.Nat.{ℕ, zero, _-_, _≤_}
+use Prim.Native.Nat.{ℕ, _-_, _≤_}
 use native.Mathlib.Omega.{arith}
 use lib.Dec.{eqb}
 use Rattle.std.specs.declared.option.Option.{Option}
@@ -20,10 +20,10 @@ use Rattle.model.specs.States.{State, view, hasForm, isGone}
 use Rattle.model.specs.Upkeep.{anyJobOn, numbers, pointsTo, anyGoneTo, isUnreached, unreachedOf, freePageTo}
 use Rattle.model.specs.Reference.{Reference}
 use Rattle.model.specs.Soundness.{FreeChain}
-use Rattle.model.proofs.Bounds.{Under, UpTo, at, startOf}
-use Rattle.model.proofs.Invariant.{upd, LiveOk, GoneOk, Tree, JobOk, JobsOk, Agrees}
+use Rattle.model.proofs.Invariant.{upd, LiveOk, GoneOk, Tree, JobsOk, Agrees}
 use Rattle.model.proofs.Counting.{in-numbers, once-counting}
-use Rattle.model.proofs.Frames.{KeepsLive, live-kept, live-not-free, live-not-gone, gone-not-free}
+use Rattle.model.proofs.Frames.{KeepsLive, live-kept, live-not-free, live-not-gone, gone-not-free, KeptHeld}
+use Rattle.model.proofs.Frames.{gone-kept, job-kept}
 use Rattle.model.proofs.Updates.{upd-all, upd-apart, keeps-live, chain-give, holds-kept, upd-other}
 use Rattle.model.proofs.Views.{gone-in-range}
 
@@ -47,35 +47,19 @@ module _ (f : ℕ → Page) (p h : ℕ) where
     free-chain : FreeChain f h → FreeChain freed p
     free-chain = chain-give f p h (gone-not-free isGone)
 
+  -- every other page stays as it is
+  free-keeps-other : (q : ℕ) → q ≢ p → KeptHeld (f q) (freed q)
+  free-keeps-other q ne = subst (KeptHeld (f q)) (sym (upd-other f p q (freePageTo h) ne)) (λ held. (held, refl, refl))
+
   module _ (o : KeyOrder) where
-    -- a gone page that points elsewhere stays in order
-    gone-other : (x : Page) → x .link ≢ p → GoneOk o f x → GoneOk o freed x
-    gone-other x ne g =
-        let same = sym (upd-other f p (x .link) (freePageTo h) ne) in
-        record {
-          none = g .none;
-          startKey = g .startKey;
-          held = subst (λ (y : Page). hasForm (y .state) ≡ true) same (g .held);
-          level = subst (λ (y : Page). y .level ≡ x .level) same (g .level);
-          earlier = subst (λ (y : Page). Under o (startOf y) (startOf x)) same (g .earlier);
-        }
-
-    job-other : (j : Job) → j .page ≢ p → JobOk o f j → JobOk o freed j
-    job-other j ne k =
-        let same = sym (upd-other f p (j .page) (freePageTo h) ne) in
-        record {
-          key = k .key;
-          held = subst (λ (y : Page). hasForm (y .state) ≡ true) same (k .held);
-          reaches = subst (λ (y : Page). UpTo o (startOf y) (at (j .task .key))) same (k .reaches);
-        }
-
     -- the jobs stay in order, if none stands on the page
     free-jobs : (js : List (Option Job)) → anyJobOn p js ≡ false → JobsOk o f js → JobsOk o freed js
     free-jobs [] none k = k
     free-jobs (None ∷ js) none k = free-jobs js none k
     free-jobs (Some j ∷ js) none k =
         let parts = or-parts (eqb (j .page) p) (anyJobOn p js) none in
-        (job-other j (eqb-false (j .page) p (parts .0)) (k .0), free-jobs js (parts .1) (k .1))
+        let other = free-keeps-other (j .page) (eqb-false (j .page) p (parts .0)) in
+        (job-kept o f freed j other (k .0), free-jobs js (parts .1) (k .1))
 
     -- the tree stays, if no gone page points to the page
     free-tree : (fill root : ℕ) → f p .state ≡ Gone → ((q : ℕ) → f q .state ≡ Gone → f q .link ≢ p)
@@ -88,12 +72,12 @@ module _ (f : ℕ → Page) (p h : ℕ) where
           apart = upd-apart f p (freePageTo h) o (t .apart) (λ q other e. absurd (live-not-free e refl));
           gone = upd-all f p (freePageTo h) (λ (q : ℕ) (y : Page). y .state ≡ Gone → GoneOk o freed y)
               (λ e. absurd (gone-not-free e refl))
-              (λ q ne e. gone-other (f q) (unpointed q e) (t .gone q e));
+              (λ q ne e. gone-kept o f freed (f q) (free-keeps-other (f q .link) (unpointed q e)) (t .gone q e));
           rootLive = root-live .0;
           rootStart = root-live .2 ∙ t .rootStart;
           rootTop = λ q held. subst (λ (l : ℕ). freed q .level ≤ l) (sym (root-live .1)) (below q held);
-          zero = upd-all f p (freePageTo h) (λ (q : ℕ) (y : Page). q ≡ 0 → hasForm (y .state) ≡ false) (λ e. refl)
-              (λ q ne e. subst (λ (m : ℕ). hasForm (f m .state) ≡ false) (sym e) (t .zero)) 0 refl;
+          zero = upd-all f p (freePageTo h) (λ q y. hasForm (f q .state) ≡ false → hasForm (y .state) ≡ false)
+              (λ _. refl) (λ q _ e. e) 0 (t .zero);
         }
       where
         root-live : (freed root .state ≡ Live) × (freed root .level ≡ f root .level)

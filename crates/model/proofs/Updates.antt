@@ -17,7 +17,7 @@ use Rattle.model.specs.Soundness.{Linked, FreeChain}
 use Rattle.model.proofs.Bounds.{KeyBound, UpTo, upto-trans, endOf, startOf}
 use Rattle.model.proofs.Invariant.{Holds, Apart, upd}
 use Rattle.model.proofs.Lists.{all-map}
-use Rattle.model.proofs.Frames.{KeepsLive, KeepsHeld, KeptHeld, KeptLive, linked-kept}
+use Rattle.model.proofs.Frames.{KeepsLive, KeepsHeld, KeptHeld, KeptLive, linked-kept, held-at}
 
 module _ (o : KeyOrder) where
   -- the pages x and y, of the numbers a and b, do not overlap if they are two live pages of a level
@@ -104,13 +104,7 @@ module _ (f : ℕ → Page) (p : ℕ) (x : Page) where
   -- what another leaf holds it holds still
   pub holds-other : (d : Entry) (h : Holds f d) → h .leaf ≢ p → Holds (upd f p x) d
   holds-other d h ne =
-      let same = sym (upd-other f p (h .leaf) x ne) in
-      record {
-        leaf = h .leaf;
-        live = subst (λ (y : Page). y .state ≡ Live) same (h .live);
-        level = subst (λ (y : Page). y .level ≡ 0) same (h .level);
-        holds = subst (λ (y : Page). In d (y .entries)) same (h .holds);
-      }
+      held-at (upd f p x) (h .leaf) (f (h .leaf)) d (upd-other f p (h .leaf) x ne) (h .live) (h .level) (h .holds)
 
   -- a page that is not live holds nothing
   pub holds-kept : (d : Entry) → f p .state ≢ Live → Holds f d → Holds (upd f p x) d

@@ -1,5 +1,4 @@
 -- The code and the figure of an answer; a figure that is not named is 0.
-use mathlib.Core.Bool.{Bool, true, false}
 use Prim.Native.Nat.{ℕ}
 use Rattle.model.specs.declared.answers.Answer.{Answer}
 use Rattle.model.specs.declared.answers.Answer.the-variants.{StoreTooSmall, NoFill, NoIndex, NoConsole, Busy, Idle}

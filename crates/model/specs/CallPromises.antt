@@ -6,11 +6,11 @@ use mathlib.Core.List.{List, _∷_}
 use Prim.Native.Nat.{ℕ, _<_}
 use Rattle.std.specs.declared.option.Option.the-variants.{Some}
 use Rattle.model.specs.declared.jobs.Job.{Job}
-use Rattle.model.specs.Answers.{code}
+use Rattle.model.specs.Answers.{code, figure}
 use Rattle.model.specs.Entries.{KeyOrder}
 use Rattle.model.specs.States.{State}
 use Rattle.model.specs.Turns.{jobAt}
-use Rattle.model.specs.Calls.{Call}
+use Rattle.model.specs.Calls.{Call, step}
 use Rattle.model.specs.Histories.{Pair, Starts, after, entriesOf}
 use Rattle.model.specs.Jobs.{finishedIn, SameJobs, SameAnswers}
 use Rattle.model.specs.Soundness.{Sound}
@@ -39,3 +39,12 @@ module _ (o : KeyOrder) where
   EndsAlone c before =
       (r : Pair) → Starts r → (cs : List Call) (j : Job) → after o cs r .state ≡ before → jobAt before c ≡ Some j
       → ((n : ℕ) → n < before .pages → code (turnAfter o c n before) ≢ 9) → FinishedWithin o c (before .pages) before
+
+-- what a call's contract says: its code and figure and the state after it are those of its step, and the promises hold
+pub record Called (o : KeyOrder) (c : Call) (before : State) (x y : ℕ) (now′ : State) : Type 0 where
+  pub number : x ≡ code (step o c before .answer)
+  pub shown : y ≡ figure (step o c before .answer)
+  pub state : now′ ≡ step o c before .after
+  pub reference : LikeReference o c before x y now′
+  pub others : LikeOthers o c before now′
+  pub sound : SoundThen o before now′

@@ -9,9 +9,9 @@ use Rattle.order.specs.Places.{isPlace, places, keyOfName}
 use Rattle.model.specs.declared.answers.Answer.{Answer}
 use Rattle.model.specs.Answers.{code, figure}
 use Rattle.model.specs.Entries.{KeyOrder}
-use Rattle.model.specs.States.{State, Outcome}
+use Rattle.model.specs.States.{State}
 use Rattle.model.specs.Starts.{format, unmade}
-use Rattle.model.specs.Calls.{Call, begin, turn, withdraw, post, merge, raise, sweep, step}
+use Rattle.model.specs.Calls.{Call, begin, turn, post, merge, raise, sweep, step}
 
 abbrev pub loadOrder : KeyOrder
 loadOrder = record { keyed = isLoadKey; compared = loads }

@@ -1,19 +1,16 @@
 -- Histories: an index from its start on, through any list of calls, with the reference beside it.
-use mathlib.Core.Path.{_≡_}
 use mathlib.Core.Bool.{Bool, true, false, cond, _&&_, _||_}
 use mathlib.Core.List.{List, [], _∷_, _++_}
-use Prim.Native.Nat.{ℕ, zero, suc, _≤_, _<_}
+use Prim.Native.Nat.{ℕ, zero, suc, _≤_}
 use lib.Dec.{eqb}
 use lib.ListN.{length}
 use Rattle.std.specs.declared.option.Option.{Option}
 use Rattle.std.specs.declared.option.Option.the-variants.{Some, None}
-use Rattle.order.specs.declared.keys.Key.{Key}
 use Rattle.page.specs.declared.entries.Entry.{Entry}
-use Rattle.page.specs.Pages.{Page}
 use Rattle.model.specs.declared.answers.Answer.{Answer}
-use Rattle.model.specs.Answers.{code, figure}
+use Rattle.model.specs.Answers.{code}
 use Rattle.model.specs.Entries.{KeyOrder}
-use Rattle.model.specs.States.{State, Outcome, view, isLive}
+use Rattle.model.specs.States.{State, view, isLive}
 use Rattle.model.specs.Upkeep.{numbers}
 use Rattle.model.specs.Starts.{format, unmade}
 use Rattle.model.specs.Calls.{Call, step}

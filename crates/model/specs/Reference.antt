@@ -6,7 +6,6 @@ use lib.Dec.{ltb}
 use lib.ListN.{getD, set, replicate}
 use Rattle.std.specs.declared.option.Option.{Option}
 use Rattle.std.specs.declared.option.Option.the-variants.{Some, None}
-use Rattle.order.specs.declared.keys.Key.{Key}
 use Rattle.page.specs.declared.entries.Entry.{Entry}
 use Rattle.model.specs.declared.jobs.Kind.{Kind}
 use Rattle.model.specs.declared.jobs.Kind.the-variants.{Look, Enter, Strike}

@@ -1,6 +1,6 @@
 -- A sound store, by seven rules: each of page 0, of a page or of a level.
 use mathlib.Core.Path.{_≡_}
-use mathlib.Core.Bool.{Bool, true}
+use mathlib.Core.Bool.{true}
 use mathlib.Core.List.{List, [], _∷_}
 use Prim.Native.Nat.{ℕ, zero, suc, _≤_, _<_}
 use lib.ListN.{length}
@@ -12,7 +12,7 @@ use Rattle.order.specs.Comparisons.{notAfter}
 use Rattle.page.specs.declared.entries.Entry.{Entry}
 use Rattle.page.specs.declared.pages.PageState.{PageState}
 use Rattle.page.specs.declared.pages.PageState.the-variants.{Free, Live, Gone, Damaged}
-use Rattle.page.specs.Pages.{Page, Head, pageRun, wordsOf, headWords, boundKey}
+use Rattle.page.specs.Pages.{Page, pageRun, wordsOf, headWords, boundKey}
 use Rattle.model.specs.Lists.{All, In, Once}
 use Rattle.model.specs.Entries.{KeyOrder}
 use Rattle.model.specs.States.{State, view, root, freeHead, hasForm}

@@ -1,5 +1,5 @@
 -- How an index is made: format and attach.
-use mathlib.Core.Bool.{Bool, true, false, cond, _&&_}
+use mathlib.Core.Bool.{Bool, cond, _&&_}
 use mathlib.Core.List.{List, [], _∷_}
 use Prim.Native.Nat.{ℕ, _+_, _-_, _/_, min}
 use lib.Dec.{eqb, ltb, leb}
@@ -7,7 +7,7 @@ use lib.ListN.{length, getD}
 use Rattle.std.specs.Iters.{counting}
 use Rattle.std.specs.declared.option.Option.the-variants.{None}
 use Rattle.page.specs.declared.pages.PageState.the-variants.{Live}
-use Rattle.page.specs.Pages.{Page, Head, put, putWords, headWords}
+use Rattle.page.specs.Pages.{Page, put, putWords, headWords}
 use Rattle.model.specs.declared.answers.Answer.the-variants.{StoreTooSmall, NoFill, NoIndex, Made}
 use Rattle.model.specs.States.{State, Outcome, refused, answered, noJobs}
 use Rattle.model.specs.Upkeep.{freePageTo}

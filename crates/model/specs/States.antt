@@ -1,16 +1,16 @@
 -- The state of an index: the words of its store, its copies of the number of pages and of the fill, and 32 jobs.
 use mathlib.Core.Bool.{Bool, true, false, cond, not, _&&_}
-use mathlib.Core.List.{List, [], _∷_, _++_}
-use Prim.Native.Nat.{ℕ, _+_, _*_, _-_}
+use mathlib.Core.List.{List, []}
+use Prim.Native.Nat.{ℕ}
 use lib.Dec.{eqb, ltb, leb}
 use lib.ListN.{length, getD, set, replicate}
 use Rattle.std.specs.declared.option.Option.{Option}
-use Rattle.std.specs.declared.option.Option.the-variants.{Some, None}
+use Rattle.std.specs.declared.option.Option.the-variants.{None}
 use Rattle.std.specs.declared.result.Result.{Result}
 use Rattle.std.specs.declared.result.Result.the-variants.{Ok, Err}
 use Rattle.page.specs.declared.pages.PageState.{PageState}
 use Rattle.page.specs.declared.pages.PageState.the-variants.{Free, Live, Gone, Damaged}
-use Rattle.page.specs.Pages.{Page, Head, pageAt, isThere, put, putWords, headWords}
+use Rattle.page.specs.Pages.{Page, pageAt, isThere, put, putWords, headWords}
 use Rattle.model.specs.declared.answers.Answer.{Answer}
 use Rattle.model.specs.declared.answers.Answer.the-variants.{Unreadable, NoFreePage}
 use Rattle.model.specs.declared.jobs.Job.{Job}
