@@ -28,10 +28,10 @@ pub record Stands (o : KeyOrder) (p : Pair) : Type 0 where
   pub agrees : Agrees o (view (p .state)) (p .state .jobs) (p .reference)
 
 -- what format leaves on a store that is large enough, with a fill from 4 to 18
-format-made : (w : List ℕ) (fill : ℕ) → 128 ≤ length w → 4 ≤ fill → fill ≤ 18
-    → format fill (unmade w) .after ≡ made (pagesIn w) fill (formatWords (pagesIn w) fill w)
-format-made w fill long least most =
-    let large = cond-false _ _ _ (le-ltb (length w) 128 long) in
+pub format-made : (s : State) (fill : ℕ) → 128 ≤ length (s .words) → 4 ≤ fill → fill ≤ 18
+    → format fill s .after ≡ made (pagesIn (s .words)) fill (formatWords (pagesIn (s .words)) fill (s .words))
+format-made s fill long least most =
+    let large = cond-false _ _ _ (le-ltb (length (s .words)) 128 long) in
     let fits = cond-true _ _ _ (and-from _ _ (le-leb 4 fill least) (le-leb fill 18 most)) in
     ap (λ (out : Outcome). out .after) (large ∙ fits)
 
@@ -41,7 +41,7 @@ module _ {o : KeyOrder} (laws : Lawful (o .keyed) (o .compared)) where
       let n = pagesIn w in
       let two : 2 ≤ n = omega arith in
       let room : 64 * n ≤ length w = omega arith in
-      let is = sym (format-made w fill long least most) in
+      let is = sym (format-made (unmade w) fill long least most) in
       subst (λ (s : State). Stands o (record { state = s; reference = empty })) is
       (record { inv = inv-new n fill w two room o (omega arith) least most; agrees = agrees-new n fill w two room o })
 

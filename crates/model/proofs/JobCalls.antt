@@ -1,4 +1,4 @@
--- Begin and withdraw.
+-- Begin and withdraw: they keep the index in order beside the reference, and answer what it says.
 use mathlib.Core.Path.{_≡_, refl, sym, subst}
 use mathlib.Core.Bool.{Bool}
 use Prim.Native.Nat.{ℕ}
@@ -47,7 +47,7 @@ module _ {o : KeyOrder} (laws : Lawful (o .keyed) (o .compared)) {s : State} {r 
   begin-job-kept (Some j) new keyed = refused-kept inv agrees Busy (λ e. omega arith)
   begin-job-kept None new keyed = begin-task new keyed
 
-  -- begin
+  -- begin keeps the index in order beside the reference
   pub begin-kept : (kind : ℕ) (k : Key) (v : ℕ) (b : Bool)
       → Kept o (turns.begin o c kind k v s) (feed o (calls.begin c kind k v) b r)
   begin-kept kind k v b =
@@ -66,7 +66,7 @@ module _ {o : KeyOrder} (laws : Lawful (o .keyed) (o .compared)) {s : State} {r 
         undamaged = λ e. omega arith;
       }
 
-  -- withdraw
+  -- so does withdraw
   pub withdraw-kept : (b : Bool) → Kept o (turns.withdraw c s) (feed o (calls.withdraw c) b r)
   withdraw-kept b =
       on-console inv agrees (ltb c 32) _ _ (λ _.

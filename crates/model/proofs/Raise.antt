@@ -1,4 +1,4 @@
--- A root over the old one, on a free page.
+-- Raise: a root over the old one, on a free page; the tree, the chain, the jobs and the entries stay.
 use mathlib.Core.Path.{_≡_, refl, sym, subst}
 use mathlib.Core.Logic.{_≢_}
 use mathlib.Core.Bool.{true, false}

@@ -1,4 +1,4 @@
--- Gone pages that nothing reaches become free.
+-- Sweep: gone pages that nothing reaches become free, and the tree, the chain, the jobs and the entries stay.
 use mathlib.Core.Path.{_≡_, refl, sym, subst, _∙_}
 use mathlib.Core.Logic.{_≢_, inl, inr}
 use mathlib.Core.Bool.{Bool, true, false, cond, not, _&&_}

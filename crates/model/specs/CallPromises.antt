@@ -10,7 +10,9 @@ use Rattle.model.specs.Answers.{code, figure}
 use Rattle.model.specs.Entries.{KeyOrder}
 use Rattle.model.specs.States.{State}
 use Rattle.model.specs.Turns.{jobAt}
+use Rattle.model.specs.Starts.{format, attach}
 use Rattle.model.specs.Calls.{Call, step}
+use Rattle.model.specs.Reference.{empty}
 use Rattle.model.specs.Histories.{Pair, Starts, after, entriesOf}
 use Rattle.model.specs.Jobs.{finishedIn, SameJobs, SameAnswers}
 use Rattle.model.specs.Soundness.{Sound}
@@ -48,3 +50,17 @@ pub record Called (o : KeyOrder) (c : Call) (before : State) (x y : ℕ) (now′
   pub reference : LikeReference o c before x y now′
   pub others : LikeOthers o c before now′
   pub sound : SoundThen o before now′
+
+-- what format's contract says: its code and figure and the state after it are those of its step, and where it answers 20
+-- a history starts
+pub record FormatCalled (fill : ℕ) (before : State) (x y : ℕ) (now′ : State) : Type 0 where
+  pub number : x ≡ code (format fill before .answer)
+  pub shown : y ≡ figure (format fill before .answer)
+  pub state : now′ ≡ format fill before .after
+  pub starts : x ≡ 20 → Starts (record { state = now′; reference = empty })
+
+-- what attach's contract says
+pub record AttachCalled (before : State) (x y : ℕ) (now′ : State) : Type 0 where
+  pub number : x ≡ code (attach before .answer)
+  pub shown : y ≡ figure (attach before .answer)
+  pub state : now′ ≡ attach before .after
