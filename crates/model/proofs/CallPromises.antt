@@ -29,7 +29,8 @@ use Rattle.model.proofs.Soundness.{sound-after-all}
 use Rattle.model.proofs.AloneFinishes.{alone-within-pages}
 
 -- the state before a call, what the call answers, and the state after it
-module _ (o : KeyOrder) (laws : Laws o) (c : Call) (before now′ : State) (stepped : now′ ≡ step o c before .after) where
+module _ (o : KeyOrder) (laws : Laws o) (c : Call) (before now′ : State)
+    (stepped : now′ ≡ step o c before .after) where
   then-after : (r : Pair) (cs : List Call) → after o cs r .state ≡ before → after o (c ∷ cs) r .state ≡ now′
   then-after r cs e = ap (λ (s : State). step o c s .after) e ∙ sym stepped
 
@@ -50,7 +51,8 @@ module _ (o : KeyOrder) (laws : Laws o) (c : Call) (before now′ : State) (step
       (h .0, ap entriesOf (sym (then-after r cs e)) ∙ h .1)
 
   sound-then : SoundThen o before now′
-  sound-then r start cs e = subst (λ (s : State). Sound o s) (then-after r cs e) (sound-after-all o laws r start (c ∷ cs))
+  sound-then r start cs e =
+      subst (λ (s : State). Sound o s) (then-after r cs e) (sound-after-all o laws r start (c ∷ cs))
 
   -- all of it, for a call that takes its step
   pub called : (a : Answer) (number shown : ℕ) → a ≡ step o c before .answer → number ≡ code a → shown ≡ figure a
@@ -70,7 +72,8 @@ pub ends-alone : (o : KeyOrder) → Laws o → (c : ℕ) (before : State) → En
 ends-alone o laws c before r start cs j e own fine =
     subst (λ (s : State). FinishedWithin o c (s .pages) s) e
     (alone-within-pages o laws r start cs c j (ap (λ (s : State). jobAt s c) e ∙ own)
-    (λ n less nine. fine n (subst (λ (s : State). n < s .pages) e less) (subst (λ (s : State). code (turnAfter o c n s) ≡ 9) e nine)))
+    (λ n less nine. fine n (subst (λ (s : State). n < s .pages) e less)
+    (subst (λ (s : State). code (turnAfter o c n s) ≡ 9) e nine)))
 
 -- an answer of 20 says that the store is large enough and the fill is one
 format-starts : (fill : ℕ) (before : State) → code (format fill before .answer) ≡ 20
@@ -86,7 +89,8 @@ format-starts fill before made20 = elim (cases-lt (length (before .words)) 128) 
         let most = leb-true fill 18 (range .1) in
         let w = before .words in
         let same = format-made before fill long least most ∙ sym (format-made (unmade w) fill long least most) in
-        subst (λ (s : State). Starts (record { state = s; reference = empty })) (sym same) (formatted w fill long least most)
+        subst (λ (s : State). Starts (record { state = s; reference = empty })) (sym same)
+        (formatted w fill long least most)
     | inr other ↦
         let none = ap (λ (out : Outcome). code (out .answer)) (format-other fill before long other) in
         absurd (omega (arith, none))

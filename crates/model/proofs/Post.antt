@@ -67,7 +67,7 @@ module _ (o : KeyOrder) (s : State) (end : Option Key) where
   short-by e es i false short h rest = short-further e es i (shortChild o s end es) h rest
 
   -- what is found stands there
-  short-at : (es : List Entry) (i : ℕ) → shortChild o s end es ≡ Some i → ShortAt o (view s) end es i
+  pub short-at : (es : List Entry) (i : ℕ) → shortChild o s end es ≡ Some i → ShortAt o (view s) end es i
   short-at [] i h = absurd (grind arith)
   short-at (e ∷ es) i h =
       short-by e es i (endsShort o (view s (e .value) .end) (following end es)) refl h (short-at es)

@@ -189,7 +189,8 @@ answering o laws r start cs =
       tasks = h .agrees .tasks;
       keys = λ n j own. jobs-at o (view (p .state)) (p .state .jobs) n j (h .inv .jobs) own .key;
       answers = λ n b is.
-          subst (λ (v : Option Answer). Says v (code (step o (turn n) (p .state) .answer)) (figure (step o (turn n) (p .state) .answer))) is (said (turn n) .says);
+          let a = step o (turn n) (p .state) .answer in
+          subst (λ (v : Option Answer). Says v (code a) (figure a)) is (said (turn n) .says);
     }
 
 -- the same jobs have the same answers, in every two histories

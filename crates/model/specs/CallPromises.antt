@@ -30,7 +30,8 @@ module _ (o : KeyOrder) where
   LikeOthers c before now′ =
       (r q : Pair) → Starts r → Starts q → (cs ds : List Call) → after o cs r .state ≡ before
       → SameJobs o (finishedIn o (c ∷ cs) r) (finishedIn o ds q)
-      → SameAnswers o (finishedIn o (c ∷ cs) r) (finishedIn o ds q) × (entriesOf now′ ≡ entriesOf (after o ds q .state))
+      → SameAnswers o (finishedIn o (c ∷ cs) r) (finishedIn o ds q)
+      × (entriesOf now′ ≡ entriesOf (after o ds q .state))
 
   -- the store is sound after the call
   abbrev pub SoundThen : State → State → Type 0
@@ -51,8 +52,8 @@ pub record Called (o : KeyOrder) (c : Call) (before : State) (x y : ℕ) (now′
   pub others : LikeOthers o c before now′
   pub sound : SoundThen o before now′
 
--- what format's contract says: its code and figure and the state after it are those of its step, and where it answers 20
--- a history starts
+-- what format's contract says: its code and figure and the state after it are those of its step, and where it answers
+-- 20 a history starts
 pub record FormatCalled (fill : ℕ) (before : State) (x y : ℕ) (now′ : State) : Type 0 where
   pub number : x ≡ code (format fill before .answer)
   pub shown : y ≡ figure (format fill before .answer)

@@ -5,7 +5,7 @@ use mathlib.Core.List.{List, [], _∷_, _++_}
 use Prim.Native.Nat.{ℕ, zero, suc, _+_, _-_, _*_, _≤_, _<_}
 use native.Mathlib.Numerals.{add-one}
 use native.Mathlib.Omega.{arith}
-use lib.ListN.{length, getD, take, drop, replicate}
+use lib.ListN.{length, getD, set, take, drop, replicate}
 use borrow.Rule.Slice.PartMut.{putMid}
 use Rattle.std.proofs.shelf.Lists.{append-assoc, length-append, length-take-le, take-more, getD-drop, drop-drop}
 use Rattle.std.proofs.shelf.Lists.{take-at, drop-at, drop-replicate}
@@ -89,9 +89,12 @@ zeros-left ten xs front =
     ∙ ap (λ b. ten ++ xs ++ b) behind
     ∙ append-assoc ten xs (replicate (54 - length xs) 0)
 
--- the ten words before the entries, and zeros
-ten-words : (t l n k : ℕ) (s e : Option Key)
-    → putMid 7 3 (putMid 4 3 (t ∷ l ∷ n ∷ k ∷ replicate 60 0) (boundWords s)) (boundWords e)
+-- the ten words before the entries, laid over others
+abbrev ten-over : List ℕ → ℕ → ℕ → ℕ → ℕ → List ℕ → List ℕ → List ℕ
+ten-over z t l n k p q = putMid 7 3 (putMid 4 3 (set (set (set (set z 0 t) 1 l) 2 n) 3 k) p) q
+
+-- and over zeros
+ten-words : (t l n k : ℕ) (s e : Option Key) → ten-over (replicate 64 0) t l n k (boundWords s) (boundWords e)
     ≡ ((t ∷ l ∷ n ∷ k ∷ []) ++ (boundWords s ++ boundWords e)) ++ replicate 54 0
 ten-words t l n k None None = refl
 ten-words t l n k None (Some b) = refl
@@ -99,11 +102,10 @@ ten-words t l n k (Some a) None = refl
 ten-words t l n k (Some a) (Some b) = refl
 
 -- the words of a page, laid down part by part
-pub page-laid : (x : Page) (t n : ℕ) (p q v w : List ℕ) → t ≡ stateWord (x .state) → n ≡ length (x .entries)
-    → p ≡ boundWords (x .start) → q ≡ boundWords (x .end)
-    → v ≡ putMid 7 3 (putMid 4 3 (t ∷ x .level ∷ n ∷ x .link ∷ replicate 60 0) p) q
-    → w ≡ overlay v 10 (entryWords (x .entries)) → w ≡ wordsOf x
-page-laid x t n p q v w state count start end ten-laid laid =
+pub page-laid : (x : Page) (z : List ℕ) (t n : ℕ) (p q w : List ℕ) → z ≡ replicate 64 0
+    → t ≡ stateWord (x .state) → n ≡ length (x .entries) → p ≡ boundWords (x .start) → q ≡ boundWords (x .end)
+    → w ≡ overlay (ten-over z t (x .level) n (x .link) p q) 10 (entryWords (x .entries)) → w ≡ wordsOf x
+page-laid x z t n p q w blank state count start end laid =
     let s = boundWords (x .start) in
     let e = boundWords (x .end) in
     let es = entryWords (x .entries) in

@@ -1,7 +1,7 @@
 //! Pages read off a store and written to it. Page p is the words from 64 p on, and is there if the store has all 64.
 ghost use mathlib.Core.Path.{_≡_};
 ghost use Prim.Native.Nat.{_+_, _*_, _^_, _<_};
-ghost use lib.ListN.{getD};
+ghost use lib.ListN.{length, getD};
 ghost use Rattle.order.specs.Refusals.{JustWhere};
 ghost use Rattle.page.specs.Buffers.{pageOf, headOf, canRead, putIfThere};
 ghost use Rattle.page.specs.Pages.{wordsOf, headWords, isThere, pageAt, pageRun};
@@ -17,7 +17,10 @@ use store::Store;
 pub fn read_word<S: Store>(store: &S, at: u64) -> u64
     ensures { λ r. ⌜ r ≡ getD (words (now (store .entry))) at 0 ⌝ }
 {
-    store.read(at).unwrap_or(0)
+    match store.read(at) {
+        Some(word) => word,
+        None => 0,
+    }
 }
 
 /// The first free page, or 0: word 3 of page 0.
@@ -61,7 +64,8 @@ fn load<S: Store>(store: &S, page: u64) -> Option<[u64; PAGE_WORDS]>
 }
 
 // Puts 64 words in the place of a page's, and says whether it is there. If it is not, nothing changes.
-fn save<S: Store>(store: &mut S, page: u64, from: &[u64; PAGE_WORDS]) -> bool
+fn save<S: Store>(store: &mut S, page: u64, from: &[u64]) -> bool
+    requires { ⌜ length (now from) ≡ 64 ⌝ }
     ensures said { λ r. ⌜ r ≡ isThere (words (now (store .entry))) page ⌝ }
     ensures saved { λ _. ⌜ words (now (store .exit))
         ≡ putIfThere (words (now (store .entry))) page (now (from .entry)) ⌝ }

@@ -4,8 +4,8 @@
 //! and words 7 to 9 the end, each as a word that is 0 for none and the two words of its key. From word 10 on stand the
 //! entries, each as the two words of its key and its value. The words behind the last entry are 0.
 ghost use mathlib.Core.Path.{_≡_};
-ghost use Prim.Native.Nat.{_+_, _≤_};
-ghost use lib.ListN.{getD, drop};
+ghost use Prim.Native.Nat.{_+_, _*_, _≤_, _<_};
+ghost use lib.ListN.{getD, drop, replicate};
 ghost use Rattle.order.specs.Refusals.{JustWhere};
 ghost use Rattle.store.specs.Overlay.{overlay};
 ghost use Rattle.page.specs.Buffers.{pageOf, headOf, countFits};
@@ -57,6 +57,14 @@ fn bound_from(words: &[u64; PAGE_WORDS], at: usize) -> Option<Key>
     }
 }
 
+// The place of the entry that stands behind so many others.
+fn entry_place(before: usize) -> usize
+    requires { ⌜ before < 18 ⌝ }
+    ensures { λ r. ⌜ r ≡ 10 + 3 * before ⌝ }
+{
+    FIRST_ENTRY + ENTRY_WORDS * before
+}
+
 // The key of a start, zeros for none.
 fn bound_key(bound: Option<Key>) -> Key
     ensures { λ r. ⌜ r ≡ boundKey bound ⌝ }
@@ -77,7 +85,7 @@ fn entries_from(words: &[u64; PAGE_WORDS]) -> Option<Entries>
     }
     let mut entries = Entries::new();
     for i in 0..words[2] as usize {
-        let at = FIRST_ENTRY + ENTRY_WORDS * i;
+        let at = entry_place(i);
         entries.push(Entry {
             key: key_from(words, at),
             value: words[at + 2],
@@ -117,14 +125,29 @@ fn bound_words(bound: Option<Key>) -> [u64; 3]
     }
 }
 
+// Lays the entries down from word 10 on.
 fn put_entries(words: &mut [u64; PAGE_WORDS], entries: &Entries)
     ensures { λ _. ⌜ now (words .exit)
         ≡ overlay (now (words .entry)) 10 (entryWords (listOf (now (entries .entry)))) ⌝ }
 {
     for (i, entry) in entries.as_slice().iter().enumerate() {
-        let at = FIRST_ENTRY + ENTRY_WORDS * i;
+        let at = entry_place(i);
         words[at..at + ENTRY_WORDS].copy_from_slice(&[entry.key.hi, entry.key.lo, entry.value]);
     }
+}
+
+// Lays the parts of a page down in words that are all 0.
+fn lay_out(words: &mut [u64; PAGE_WORDS], page: &PageBuf)
+    requires { ⌜ now words ≡ replicate 64 0 ⌝ }
+    ensures { λ _. ⌜ now (words .exit) ≡ wordsOf (pageOf (now (page .entry))) ⌝ }
+{
+    words[0] = page.state.word();
+    words[1] = page.level;
+    words[2] = page.entries.len() as u64;
+    words[3] = page.link;
+    words[START..END].copy_from_slice(&bound_words(page.start));
+    words[END..FIRST_ENTRY].copy_from_slice(&bound_words(page.end));
+    put_entries(words, &page.entries);
 }
 
 /// The 64 words of a page.
@@ -132,13 +155,7 @@ pub fn page_words(page: &PageBuf) -> [u64; PAGE_WORDS]
     ensures { λ r. ⌜ r ≡ wordsOf (pageOf (now (page .entry))) ⌝ }
 {
     let mut words = [0; PAGE_WORDS];
-    words[0] = page.state.word();
-    words[1] = page.level;
-    words[2] = page.entries.len() as u64;
-    words[3] = page.link;
-    words[START..END].copy_from_slice(&bound_words(page.start));
-    words[END..FIRST_ENTRY].copy_from_slice(&bound_words(page.end));
-    put_entries(&mut words, &page.entries);
+    lay_out(&mut words, page);
     words
 }
 

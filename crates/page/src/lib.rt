@@ -13,6 +13,7 @@ pub use access::write_page;
 pub use entries::Entries;
 pub use entries::Entry;
 pub use entries::MOST_ENTRIES;
+pub use layout::PAGE_WORDS;
 pub use layout::head_words;
 pub use layout::page_from;
 pub use layout::page_words;

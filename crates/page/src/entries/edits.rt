@@ -2,10 +2,10 @@
 ghost use mathlib.Core.Path.{_≡_};
 ghost use mathlib.Core.Bool.{cond};
 ghost use mathlib.Core.List.{[], _∷_, _++_};
+ghost use Prim.Native.Nat.{_+_, _≤_, _<_};
 ghost use lib.Dec.{ltb};
 ghost use lib.ListN.{length, take, drop};
-ghost use Rattle.std.specs.shelf.Maps.{nth};
-ghost use Rattle.page.specs.Entries.{listOf, hasRoom, takesAt, insertAt, removeAt};
+ghost use Rattle.page.specs.Entries.{listOf, entryAt, hasRoom, takesAt, insertAt, removeAt};
 ghost use Rattle.page.specs.Pages.{startFirst};
 use super::Entries;
 use super::Entry;
@@ -43,12 +43,40 @@ impl Entries {
 
     /// The entry at a place, or `None` behind the last.
     pub fn get(&self, at: usize) -> Option<Entry>
-        ensures { λ r. ⌜ r ≡ nth (listOf (now (self .entry))) at ⌝ }
+        ensures { λ r. ⌜ r ≡ entryAt (listOf (now (self .entry))) at ⌝ }
     {
         self.as_slice().get(at).copied()
     }
 
-    /// Puts an entry behind the others, and says whether there was room. Without room nothing changes.
+    // Puts entries, for which there is room, behind the last.
+    fn put_behind(&mut self, more: &[Entry])
+        requires { ⌜ length (listOf (now self)) + length (now more) ≤ 18 ⌝ }
+        ensures { λ _. ⌜ listOf (now (self .exit)) ≡ listOf (now (self .entry)) ++ now (more .entry) ⌝ }
+    {
+        let count = self.count + more.len();
+        self.items[self.count..count].copy_from_slice(more);
+        self.count = count;
+    }
+
+    // Puts an entry, for which there is room, before the one at a place.
+    fn put_in(&mut self, at: usize, entry: Entry)
+        requires { ⌜ at ≤ length (listOf (now self)) ⌝ ∗ ⌜ length (listOf (now self)) < 18 ⌝ }
+        ensures { λ _. ⌜ listOf (now (self .exit)) ≡ insertAt (listOf (now (self .entry))) at entry ⌝ }
+    {
+        self.put_behind(&[entry]);
+        self.items[at..self.count].rotate_right(1);
+    }
+
+    // Takes the entry at a place out.
+    fn take_out(&mut self, at: usize)
+        requires { ⌜ at < length (listOf (now self)) ⌝ }
+        ensures { λ _. ⌜ listOf (now (self .exit)) ≡ removeAt (listOf (now (self .entry))) at ⌝ }
+    {
+        self.items[at..self.count].rotate_left(1);
+        self.count -= 1;
+    }
+
+    /// Puts an entry behind the last, and says whether there was room. Without room nothing changes.
     pub fn push(&mut self, entry: Entry) -> bool
         ensures said { λ r. ⌜ r ≡ hasRoom (listOf (now (self .entry))) 1 ⌝ }
         ensures pushed { λ r. ⌜ listOf (now (self .exit))
@@ -57,8 +85,7 @@ impl Entries {
         if self.count >= MOST_ENTRIES {
             return false;
         }
-        self.items[self.count] = entry;
-        self.count += 1;
+        self.put_behind(&[entry]);
         true
     }
 
@@ -69,10 +96,10 @@ impl Entries {
         ensures inserted { λ r. ⌜ listOf (now (self .exit))
             ≡ cond r (insertAt (listOf (now (self .entry))) at entry) (listOf (now (self .entry))) ⌝ }
     {
-        if at > self.count || !self.push(entry) {
+        if at > self.count || self.count >= MOST_ENTRIES {
             return false;
         }
-        self.items[at..self.count].rotate_right(1);
+        self.put_in(at, entry);
         true
     }
 
@@ -85,9 +112,28 @@ impl Entries {
         if at >= self.count {
             return false;
         }
-        self.items[at..self.count].rotate_left(1);
-        self.count -= 1;
+        self.take_out(at);
         true
+    }
+
+    // A copy of the entries from a place on.
+    fn from_place(&self, at: usize) -> Entries
+        ensures { λ r. ⌜ listOf r ≡ drop at (listOf (now (self .entry))) ⌝ }
+    {
+        let skipped = at.min(self.count);
+        let mut items = self.items;
+        items.rotate_left(skipped);
+        Entries {
+            items,
+            count: self.count - skipped,
+        }
+    }
+
+    // Keeps the entries before a place.
+    fn truncate(&mut self, at: usize)
+        ensures { λ _. ⌜ listOf (now (self .exit)) ≡ take at (listOf (now (self .entry))) ⌝ }
+    {
+        self.count = at.min(self.count);
     }
 
     /// Keeps the entries before a place, and gives back the others.
@@ -95,14 +141,8 @@ impl Entries {
         ensures kept { λ _. ⌜ listOf (now (self .exit)) ≡ take at (listOf (now (self .entry))) ⌝ }
         ensures cut { λ r. ⌜ listOf r ≡ drop at (listOf (now (self .entry))) ⌝ }
     {
-        let kept = at.min(self.count);
-        let mut items = self.items;
-        items.rotate_left(kept);
-        let rest = Entries {
-            items,
-            count: self.count - kept,
-        };
-        self.count = kept;
+        let rest = self.from_place(at);
+        self.truncate(at);
         rest
     }
 
@@ -112,13 +152,10 @@ impl Entries {
         ensures appended { λ r. ⌜ listOf (now (self .exit))
             ≡ cond r (listOf (now (self .entry)) ++ listOf (now (other .entry))) (listOf (now (self .entry))) ⌝ }
     {
-        let count = self.count + other.count;
-        if count > MOST_ENTRIES {
+        if self.count + other.count > MOST_ENTRIES {
             return false;
         }
-        self.items[self.count..count]
-            .copy_from_slice(other.as_slice());
-        self.count = count;
+        self.put_behind(other.as_slice());
         true
     }
 
@@ -126,6 +163,9 @@ impl Entries {
     pub fn set_first_key(&mut self, key: Key)
         ensures { λ _. ⌜ listOf (now (self .exit)) ≡ startFirst key (listOf (now (self .entry))) ⌝ }
     {
+        if self.count == 0 {
+            return;
+        }
         self.items[0].key = key;
     }
 }

@@ -16,7 +16,6 @@ loop-i-again g c =
     let w = g .S·Store .words (c .args .store .now) in
     let v = g .S·Store .words (c .loop-i .store) in
     let xs = c .args .from .now in
-    let all = c .told-from in
     let there = c .in-Some .ensures tt in
     let room : 64 * c .args .page + 64 ≤ length w = leb-true _ _ (there .0) in
     c .write .ensures .written
@@ -27,7 +26,6 @@ returns g c =
     let w = g .S·Store .words (c .args .store .now) in
     let v = g .S·Store .words (c .loop-i .store) in
     let xs = c .args .from .now in
-    let all = c .told-from in
     let there = c .in-Some .ensures tt in
     record {
       said = sym (there .0);

@@ -8,8 +8,7 @@ use lib.ListN.{length, getD}
 use Rattle.std.proofs.shelf.Lists.{take-all}
 use Rattle.store.specs.Overlay.{overlay}
 use Rattle.store.proofs.Overlays.{overlay-none}
-use Rattle.page.specs.declared.entries.Entry.{Entry}
-use Rattle.page.specs.Entries.{listOf}
+use Rattle.page.specs.Entries.{listOf, nothing}
 use Rattle.page.specs.Pages.{entryWords}
 use Rattle.page.proofs.EntryLists.{length-list}
 use Rattle.page.proofs.EntryWords.{entry-laid}
@@ -18,21 +17,17 @@ use Rattle.page.proofs.layout.put_entries.Needs as need
 pub loop-i-holds : need.loop-i-holds
 loop-i-holds c = sym (overlay-none _ _)
 
--- what a slice is said to hold past its end
-nothing : Entry
-nothing = record { key = record { hi = 0; lo = 0 }; value = 0 }
-
 pub loop-i-again : need.loop-i-again
-unfolding nothing
 loop-i-again c =
     let es = listOf (c .args .entries .now) in
     let i = c .loop-i .i in
     let few = c .args .entries .now .few in
     let long = length-list (c .args .entries .now) in
     let same = ap length (c .as-slice-entry-items .ensures) in
+    let here = sym (c .entry-place-at .ensures) in
     let read = ap (λ xs. entryWords (getD xs i nothing ∷ [])) (c .as-slice-entry-items .ensures) in
     entry-laid (c .args .words .now) (c .loop-i .words) (c .copy-from-slice .last .self) es i _ _ nothing
-    (c .told-words) (omega arith) (omega arith) (c .loop-i .inv) refl (omega arith)
+    (c .told-words) (omega arith) (omega arith) (c .loop-i .inv) here (omega arith)
     (c .copy-from-slice .ensures .after ∙ read)
 
 pub returns : need.returns
