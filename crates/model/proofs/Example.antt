@@ -21,4 +21,10 @@ worked-example =
       day = refl;
       threeTurns = refl;
       oneName = refl;
+      refused = refl;
+      mergesAtHalf = refl;
+      sweepsTwo = refl;
+      attached = refl;
+      noIndex = refl;
+      noStore = refl;
     }

@@ -10,8 +10,8 @@ use Rattle.model.specs.declared.answers.Answer.{Answer}
 use Rattle.model.specs.Answers.{code, figure}
 use Rattle.model.specs.Entries.{KeyOrder}
 use Rattle.model.specs.States.{State}
-use Rattle.model.specs.Starts.{format, unmade}
-use Rattle.model.specs.Calls.{Call, begin, turn, post, merge, raise, sweep, step}
+use Rattle.model.specs.Starts.{format, attach, unmade}
+use Rattle.model.specs.Calls.{Call, begin, turn, withdraw, post, merge, raise, sweep, step}
 
 abbrev pub loadOrder : KeyOrder
 loadOrder = record { keyed = isLoadKey; compared = loads }
@@ -83,6 +83,105 @@ mergeUnderLook = look 1 (at 50) ∷ turn 1 ∷ merge 3 ∷ sweep ∷ turn 1 ∷ 
 abbrev pub mergeAnswers : List (ℕ × ℕ)
 mergeAnswers = (20, 0) ∷ (21, 2) ∷ (30, 2) ∷ (11, 0) ∷ (21, 1) ∷ (32, 1) ∷ (23, 500) ∷ []
 
+-- what consoles, kinds and pages are refused, and a withdrawn job
+abbrev pub refusedCalls : List Call
+refusedCalls =
+    look 2 (at 10)
+    ∷ look 2 (at 20)
+    ∷ withdraw 2
+    ∷ withdraw 2
+    ∷ turn 2
+    ∷ look 32 (at 10)
+    ∷ turn 32
+    ∷ withdraw 32
+    ∷ begin 0 0 (at 10) 0
+    ∷ begin 0 4 (at 10) 0
+    ∷ post 1
+    ∷ merge 9
+    ∷ raise
+    ∷ sweep
+    ∷ []
+
+abbrev pub refusals : List (ℕ × ℕ)
+refusals =
+    (20, 0)
+    ∷ (5, 0)
+    ∷ (28, 1)
+    ∷ (6, 0)
+    ∷ (6, 0)
+    ∷ (4, 0)
+    ∷ (4, 0)
+    ∷ (4, 0)
+    ∷ (7, 0)
+    ∷ (7, 0)
+    ∷ (10, 0)
+    ∷ (10, 0)
+    ∷ (11, 0)
+    ∷ (11, 0)
+    ∷ []
+
+-- five loads in two leaves under a root
+abbrev pub fiveLoads : List Call
+fiveLoads = fourLoads ++ (enter 0 (at 50) 500 ∷ turn 0 ∷ turn 0 ∷ turn 0 ∷ raise ∷ post 3 ∷ [])
+
+abbrev pub fiveAnswers : List (ℕ × ℕ)
+fiveAnswers = fourAnswers ++ ((20, 0) ∷ (22, 2) ∷ (21, 2) ∷ (25, 0) ∷ (31, 3) ∷ (29, 2) ∷ [])
+
+-- a strike, which takes two turns there
+abbrev pub struck : ℕ → List Call
+struck second = strike 0 (at second) ∷ turn 0 ∷ turn 0 ∷ []
+
+abbrev pub struckOn : ℕ → ℕ → List (ℕ × ℕ)
+struckOn page value = (20, 0) ∷ (21, page) ∷ (27, value) ∷ []
+
+-- with fill 4 two leaves are merged at two entries, and not at three
+abbrev pub mergeEdge : List Call
+mergeEdge =
+    merge 3 ∷ (struck 40 ++ (struck 50 ++ (merge 3 ∷ (struck 20 ++ (merge 3 ∷ look 0 (at 30) ∷ turn 0 ∷ turn 0 ∷ [])))))
+
+abbrev pub mergeEdgeAnswers : List (ℕ × ℕ)
+mergeEdgeAnswers =
+    (11, 0)
+    ∷ (struckOn 2 400
+    ++ (struckOn 2 500
+    ++ ((11, 0) ∷ (struckOn 1 200 ++ ((30, 2) ∷ (20, 0) ∷ (21, 1) ∷ (23, 300) ∷ [])))))
+
+-- two more loads split the second leaf; both leaves behind the first are merged into it and swept at once
+abbrev pub sweepOfTwo : List Call
+sweepOfTwo =
+    enter 0 (at 60) 600
+    ∷ turn 0
+    ∷ turn 0
+    ∷ enter 0 (at 70) 700
+    ∷ turn 0
+    ∷ turn 0
+    ∷ turn 0
+    ∷ turn 0
+    ∷ post 3
+    ∷ (struck 10
+    ++ (struck 20
+    ++ (merge 3
+    ∷ merge 3
+    ∷ (struck 30 ++ (struck 40 ++ (merge 3 ∷ sweep ∷ look 0 (at 70) ∷ turn 0 ∷ turn 0 ∷ []))))))
+
+abbrev pub sweepOfTwoAnswers : List (ℕ × ℕ)
+sweepOfTwoAnswers =
+    (20, 0)
+    ∷ (21, 2)
+    ∷ (25, 0)
+    ∷ (20, 0)
+    ∷ (21, 2)
+    ∷ (22, 4)
+    ∷ (21, 4)
+    ∷ (25, 0)
+    ∷ (29, 4)
+    ∷ (struckOn 1 100
+    ++ (struckOn 1 200
+    ++ ((30, 2)
+    ∷ (11, 0)
+    ∷ (struckOn 1 300
+    ++ (struckOn 1 400 ++ ((30, 4) ∷ (32, 2) ∷ (20, 0) ∷ (21, 1) ∷ (23, 700) ∷ []))))))
+
 pub record WorkedExample : Type 0 where
   -- stores of 127 and 128 words
   pub tooSmall : pairOf (format 4 (zeros 127) .answer) ≡ (1, 0)
@@ -113,3 +212,12 @@ pub record WorkedExample : Type 0 where
       (enter 0 (keyOfName (80 ∷ 73 ∷ 84 ∷ 55 ∷ [])) 1 ∷ turn 0
       ∷ enter 0 (keyOfName (112 ∷ 105 ∷ 116 ∷ 55 ∷ [])) 2 ∷ turn 0 ∷ [])
       ≡ (20, 0) ∷ (25, 0) ∷ (20, 0) ∷ (26, 1) ∷ []
+  -- refusals, and a withdrawn job
+  pub refused : onFormatted loadOrder 512 4 refusedCalls ≡ refusals
+  -- when two pages are merged, and how many a sweep frees
+  pub mergesAtHalf : onFormatted loadOrder 512 4 (fiveLoads ++ mergeEdge) ≡ fiveAnswers ++ mergeEdgeAnswers
+  pub sweepsTwo : onFormatted loadOrder 512 4 (fiveLoads ++ sweepOfTwo) ≡ fiveAnswers ++ sweepOfTwoAnswers
+  -- attach to a formatted store, to zeros and to too few words
+  pub attached : pairOf (attach (unmade (format 4 (zeros 512) .after .words)) .answer) ≡ (20, 8)
+  pub noIndex : pairOf (attach (zeros 512) .answer) ≡ (3, 0)
+  pub noStore : pairOf (attach (zeros 127) .answer) ≡ (1, 0)
