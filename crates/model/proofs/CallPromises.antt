@@ -29,13 +29,13 @@ use Rattle.model.proofs.Soundness.{sound-after-all}
 use Rattle.model.proofs.AloneFinishes.{alone-within-pages}
 
 -- the state before a call, what the call answers, and the state after it
-module _ (o : KeyOrder) (laws : Laws o) (c : Call) (before now′ : State)
-    (stepped : now′ ≡ step o c before .after) where
-  then-after : (r : Pair) (cs : List Call) → after o cs r .state ≡ before → after o (c ∷ cs) r .state ≡ now′
+module _ (o : KeyOrder) (laws : Laws o) (c : Call) (before next : State)
+    (stepped : next ≡ step o c before .after) where
+  then-after : (r : Pair) (cs : List Call) → after o cs r .state ≡ before → after o (c ∷ cs) r .state ≡ next
   then-after r cs e = ap (λ (s : State). step o c s .after) e ∙ sym stepped
 
   like-reference : (a : Answer) (number shown : ℕ) → a ≡ step o c before .answer → number ≡ code a → shown ≡ figure a
-      → LikeReference o c before number shown now′
+      → LikeReference o c before number shown next
   like-reference a number shown answered is-code is-figure r start cs e =
       let p = after o cs r in
       let same : step o c (p .state) .answer ≡ a = ap (λ (s : State). step o c s .answer) e ∙ sym answered in
@@ -45,22 +45,22 @@ module _ (o : KeyOrder) (laws : Laws o) (c : Call) (before now′ : State)
       (subst (λ (n : ℕ). AsReference o c p (code (step o c (p .state) .answer)) n (step o c (p .state) .after))
       (ap figure same ∙ sym is-figure) h))
 
-  like-others : LikeOthers o c before now′
+  like-others : LikeOthers o c before next
   like-others r q startR startQ cs ds e same =
       let h = same-answers o laws r q startR startQ (c ∷ cs) ds same in
       (h .0, ap entriesOf (sym (then-after r cs e)) ∙ h .1)
 
-  sound-then : SoundThen o before now′
+  sound-then : SoundThen o before next
   sound-then r start cs e =
       subst (λ (s : State). Sound o s) (then-after r cs e) (sound-after-all o laws r start (c ∷ cs))
 
   -- all of it, for a call that takes its step
   pub called : (a : Answer) (number shown : ℕ) → a ≡ step o c before .answer → number ≡ code a → shown ≡ figure a
-      → Called o c before number shown now′
+      → Called o c before number shown next
   called a number shown answered is-code is-figure =
       record {
-        number = is-code ∙ ap code answered;
-        shown = is-figure ∙ ap figure answered;
+        coded = is-code ∙ ap code answered;
+        figured = is-figure ∙ ap figure answered;
         state = stepped;
         reference = like-reference a number shown answered is-code is-figure;
         others = like-others;
@@ -104,13 +104,13 @@ format-starts fill before made20 = elim (cases-lt (length (before .words)) 128) 
     format-other n s long other = cond-false _ _ _ (le-ltb (length (s .words)) 128 long) ∙ cond-false _ _ _ other
 
 -- all of it, for a format that takes its step
-pub format-called : (fill : ℕ) (before now′ : State) → now′ ≡ format fill before .after
+pub format-called : (fill : ℕ) (before next : State) → next ≡ format fill before .after
     → (a : Answer) (number shown : ℕ) → a ≡ format fill before .answer → number ≡ code a → shown ≡ figure a
-    → FormatCalled fill before number shown now′
-format-called fill before now′ stepped a number shown answered is-code is-figure =
+    → FormatCalled fill before number shown next
+format-called fill before next stepped a number shown answered is-code is-figure =
     record {
-      number = is-code ∙ ap code answered;
-      shown = is-figure ∙ ap figure answered;
+      coded = is-code ∙ ap code answered;
+      figured = is-figure ∙ ap figure answered;
       state = stepped;
       starts = λ twenty. subst (λ (s : State). Starts (record { state = s; reference = empty })) (sym stepped)
           (format-starts fill before (sym (is-code ∙ ap code answered) ∙ twenty));

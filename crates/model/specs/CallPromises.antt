@@ -21,21 +21,21 @@ use Rattle.model.specs.Promises.{AsReference, turnAfter, FinishedWithin}
 module _ (o : KeyOrder) where
   -- the call answers as the reference does, and leaves its entries
   abbrev pub LikeReference : Call → State → ℕ → ℕ → State → Type 0
-  LikeReference c before number shown now′ =
+  LikeReference c before number shown next =
       (r : Pair) → Starts r → (cs : List Call) → after o cs r .state ≡ before
-      → AsReference o c (after o cs r) number shown now′
+      → AsReference o c (after o cs r) number shown next
 
   -- any other history that finished the same jobs, key by key, gave them the same answers and has the same entries
   abbrev pub LikeOthers : Call → State → State → Type 0
-  LikeOthers c before now′ =
+  LikeOthers c before next =
       (r q : Pair) → Starts r → Starts q → (cs ds : List Call) → after o cs r .state ≡ before
       → SameJobs o (finishedIn o (c ∷ cs) r) (finishedIn o ds q)
       → SameAnswers o (finishedIn o (c ∷ cs) r) (finishedIn o ds q)
-      × (entriesOf now′ ≡ entriesOf (after o ds q .state))
+      × (entriesOf next ≡ entriesOf (after o ds q .state))
 
   -- the store is sound after the call
   abbrev pub SoundThen : State → State → Type 0
-  SoundThen before now′ = (r : Pair) → Starts r → (cs : List Call) → after o cs r .state ≡ before → Sound o now′
+  SoundThen before next = (r : Pair) → Starts r → (cs : List Call) → after o cs r .state ≡ before → Sound o next
 
   -- a job that is turned alone from here on is finished within as many turns as there are pages
   abbrev pub EndsAlone : ℕ → State → Type 0
@@ -44,24 +44,24 @@ module _ (o : KeyOrder) where
       → ((n : ℕ) → n < before .pages → code (turnAfter o c n before) ≢ 9) → FinishedWithin o c (before .pages) before
 
 -- what a call's contract says: its code and figure and the state after it are those of its step, and the promises hold
-pub record Called (o : KeyOrder) (c : Call) (before : State) (x y : ℕ) (now′ : State) : Type 0 where
-  pub number : x ≡ code (step o c before .answer)
-  pub shown : y ≡ figure (step o c before .answer)
-  pub state : now′ ≡ step o c before .after
-  pub reference : LikeReference o c before x y now′
-  pub others : LikeOthers o c before now′
-  pub sound : SoundThen o before now′
+pub record Called (o : KeyOrder) (c : Call) (before : State) (number shown : ℕ) (next : State) : Type 0 where
+  pub coded : number ≡ code (step o c before .answer)
+  pub figured : shown ≡ figure (step o c before .answer)
+  pub state : next ≡ step o c before .after
+  pub reference : LikeReference o c before number shown next
+  pub others : LikeOthers o c before next
+  pub sound : SoundThen o before next
 
 -- what format's contract says: its code and figure and the state after it are those of its step, and where it answers
 -- 20 a history starts
-pub record FormatCalled (fill : ℕ) (before : State) (x y : ℕ) (now′ : State) : Type 0 where
-  pub number : x ≡ code (format fill before .answer)
-  pub shown : y ≡ figure (format fill before .answer)
-  pub state : now′ ≡ format fill before .after
-  pub starts : x ≡ 20 → Starts (record { state = now′; reference = empty })
+pub record FormatCalled (fill : ℕ) (before : State) (number shown : ℕ) (next : State) : Type 0 where
+  pub coded : number ≡ code (format fill before .answer)
+  pub figured : shown ≡ figure (format fill before .answer)
+  pub state : next ≡ format fill before .after
+  pub starts : number ≡ 20 → Starts (record { state = next; reference = empty })
 
 -- what attach's contract says
-pub record AttachCalled (before : State) (x y : ℕ) (now′ : State) : Type 0 where
-  pub number : x ≡ code (attach before .answer)
-  pub shown : y ≡ figure (attach before .answer)
-  pub state : now′ ≡ attach before .after
+pub record AttachCalled (before : State) (number shown : ℕ) (next : State) : Type 0 where
+  pub coded : number ≡ code (attach before .answer)
+  pub figured : shown ≡ figure (attach before .answer)
+  pub state : next ≡ attach before .after

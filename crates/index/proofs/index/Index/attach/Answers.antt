@@ -7,7 +7,7 @@ returns g c =
     let step = c .attach-step .ensures in
     let pair = c .pair .ensures in
     record {
-      number = pair .code ∙ ap code (step .answer);
-      shown = pair .figure ∙ ap figure (step .answer);
+      coded = pair .code ∙ ap code (step .answer);
+      figured = pair .figure ∙ ap figure (step .answer);
       state = step .state;
     }
