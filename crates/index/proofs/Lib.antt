@@ -1,6 +1,6 @@
 -- pages
 pub mod Reading
-pub mod GonePages
+pub mod PageWords
 -- making an index
 pub mod FreeChains
 -- turn

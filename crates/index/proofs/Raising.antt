@@ -1,7 +1,7 @@
 -- Raise, by what was read: the root r, which holds x, and the free page.
 use mathlib.Core.Path.{_≡_, sym, ap, subst, _∙_}
 use mathlib.Core.Logic.{_≢_}
-use mathlib.Core.Bool.{true, cond, _&&_}
+use mathlib.Core.Bool.{true, _&&_}
 use Prim.Native.Nat.{ℕ, _<_}
 use lib.Dec.{eqb, ltb}
 use Rattle.std.specs.declared.result.Result.{Result}
@@ -9,8 +9,7 @@ use Rattle.std.specs.declared.result.Result.the-variants.{Ok}
 use Rattle.std.proofs.shelf.Tests.{and-parts, cond-true, cond-false, ltb-true, ne-eqb}
 use Rattle.page.specs.Pages.{Page}
 use Rattle.model.specs.declared.answers.Answer.{Answer}
-use Rattle.model.specs.declared.answers.Answer.the-variants.{Raised}
-use Rattle.model.specs.States.{State, answered, view, write, writeHead, root, freePage, isLive, readable, topLevel}
+use Rattle.model.specs.States.{State, view, write, writeHead, root, freePage, isLive, readable, topLevel}
 use Rattle.model.specs.Upkeep.{canRise, raise, raiseInto, rootOver}
 
 -- there may be another level over a page that can rise

@@ -1,6 +1,6 @@
 -- The promises of one call follow from those of all histories.
 use mathlib.Core.Path.{_≡_, sym, ap, subst, _∙_}
-use mathlib.Core.Bool.{true, false}
+use mathlib.Core.Bool.{false}
 use mathlib.Core.List.{List, _∷_}
 use mathlib.Core.Logic.{inl, inr}
 use Prim.Native.Nat.{ℕ, _≤_, _<_}
@@ -8,10 +8,8 @@ use native.Mathlib.Omega.{arith}
 use lib.Dec.{leb}
 use lib.ListN.{length}
 use Rattle.std.proofs.shelf.Tests.{cases-lt, cases-bool, and-parts, leb-true, lt-ltb, le-ltb, cond-true, cond-false}
-use Rattle.std.specs.declared.option.Option.the-variants.{Some}
 use Rattle.model.specs.declared.answers.Answer.{Answer}
 use Rattle.model.specs.declared.answers.Answer.the-variants.{StoreTooSmall, NoFill}
-use Rattle.model.specs.declared.jobs.Job.{Job}
 use Rattle.model.specs.Answers.{code, figure}
 use Rattle.model.specs.Entries.{KeyOrder}
 use Rattle.model.specs.States.{State, Outcome, refused}

@@ -1,15 +1,15 @@
 -- The laws of the layout: what is written is read back, and the other pages stay as they were.
 use mathlib.Core.Path.{_≡_, refl, sym, ap, _∙_}
-use mathlib.Core.Logic.{_≢_, _⊎_, inl, inr}
+use mathlib.Core.Logic.{_≢_, inl, inr}
 use mathlib.Core.Bool.{cond}
 use mathlib.Core.List.{List, [], _∷_, _++_}
-use Prim.Native.Nat.{ℕ, zero, suc, _+_, _-_, _*_, _≤_, _<_, min}
+use Prim.Native.Nat.{ℕ, zero, suc, _+_, _-_, _*_, _≤_, _<_}
 use native.Mathlib.Omega.{arith}
 use lib.Dec.{eqb}
-use lib.ListN.{length, getD, take, drop, replicate}
+use lib.ListN.{length, getD, drop, replicate}
 use borrow.Author.Needs.{needs}
-use Rattle.std.proofs.shelf.Lists.{places, append-assoc, length-append, length-take, length-take-le, length-drop}
-use Rattle.std.proofs.shelf.Lists.{length-replicate, getD-take, getD-drop, take-at, drop-at, ext-getD}
+use Rattle.std.proofs.shelf.Lists.{places, length-append}
+use Rattle.std.proofs.shelf.Lists.{length-replicate}
 use Rattle.std.proofs.shelf.Tests.{ne-eqb, cases-lt}
 use Rattle.std.specs.declared.option.Option.{Option}
 use Rattle.std.specs.declared.option.Option.the-variants.{Some, None}
@@ -45,13 +45,6 @@ length-words x few =
 
 pub length-head : (h : Head) → length (headWords h) ≡ 64
 length-head h = refl
-
--- what page 0 says, read back
-pub head-free : (h : Head) → getD (headWords h) 3 0 ≡ h .free
-head-free h = refl
-
-pub head-root : (h : Head) → getD (headWords h) 4 0 ≡ h .root
-head-root h = refl
 
 state-back : (t : PageState) → stateOf (stateWord t) ≡ t
 state-back Free = refl

@@ -12,10 +12,6 @@ use Rattle.page.specs.declared.entries.Entry.{Entry}
 use Rattle.page.specs.declared.pages.PageState.{PageState}
 use Rattle.page.specs.declared.pages.PageState.the-variants.{Free, Live, Gone, Damaged}
 
--- the words of a page
-abbrev pub pageWords : ℕ
-pageWords = 64
-
 -- the most entries that a page has room for
 abbrev pub mostEntries : ℕ
 mostEntries = 18

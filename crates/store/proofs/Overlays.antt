@@ -7,8 +7,8 @@ use native.Mathlib.Nat.{add-zero}
 use lib.ListN.{length, getD, set, take, drop}
 use Rattle.std.proofs.shelf.Lists.{append-nil, append-assoc, length-append, length-take, length-take-le, length-drop}
 use Rattle.std.proofs.shelf.Lists.{length-push, take-append-drop, set-at, drop-more, getD-append-left}
-use Rattle.std.proofs.shelf.Lists.{getD-append-right, getD-take, getD-drop, take-more, same-lists, take-at, drop-at}
-use Rattle.std.proofs.shelf.Lists.{take-all, drop-all, drop-drop}
+use Rattle.std.proofs.shelf.Lists.{getD-take, getD-drop, take-more, same-lists, take-at, drop-at}
+use Rattle.std.proofs.shelf.Lists.{take-all, drop-drop}
 use Rattle.std.proofs.shelf.Parts.{putMid-paste}
 use borrow.Rule.Slice.PartMut.{putMid}
 use Rattle.store.specs.Overlay.{overlay, run}
@@ -17,11 +17,6 @@ use Rattle.store.specs.Overlay.{overlay, run}
 pub overlay-none : (w : List ℕ) (at : ℕ) → overlay w at [] ≡ w
 unfolding overlay
 overlay-none w at = rw (append-nil (take at w), add-zero at) (take-append-drop at w)
-
--- a run as long as the list takes its place
-pub overlay-all : (w xs : List ℕ) → length xs ≡ length w → overlay w 0 xs ≡ xs
-unfolding overlay
-overlay-all w xs e = ap (λ b. xs ++ b) (drop-all (0 + length xs) w (omega arith)) ∙ append-nil xs
 
 -- the length stays
 pub length-overlay : (w : List ℕ) (at : ℕ) (xs : List ℕ) → at + length xs ≤ length w
@@ -74,17 +69,6 @@ unfolding overlay
 overlay-part at k w part xs e n =
     putMid-paste at k w part xs (length xs) e (sym n) refl
     ∙ ap (λ t. take at w ++ t ++ drop (at + length xs) w) (take-all (length xs) xs (omega arith))
-
--- an element of the run that was laid over
-pub getD-overlay-in : (w : List ℕ) (at : ℕ) (xs : List ℕ) (i : ℕ) → at + length xs ≤ length w → i < length xs
-    → getD (overlay w at xs) (at + i) 0 ≡ getD xs i 0
-unfolding overlay
-getD-overlay-in w at xs i h l =
-    let front : length (take at w) ≡ at = length-take-le at w (omega arith) in
-    let inside : at + i < length (take at w ++ xs) = simp (length-append, length-take) (omega arith) in
-    getD-append-left (take at w ++ xs) (drop (at + length xs) w) 0 (at + i) inside
-    ∙ getD-append-right (take at w) xs at (at + i) 0 front (omega arith)
-    ∙ ap (λ k. getD xs k 0) (omega arith)
 
 -- a run within the list has its length
 pub length-run : (w : List ℕ) (at n : ℕ) → at + n ≤ length w → length (run w at n) ≡ n

@@ -1,8 +1,7 @@
 -- Each turn lays the next entry down, behind those before it.
-use borrow.Author.Needs.{needs}
-use mathlib.Core.Path.{_≡_, refl, sym, ap, _∙_}
+use mathlib.Core.Path.{sym, ap, _∙_}
 use native.Mathlib.Omega.{arith}
-use Prim.Native.Nat.{_≤_, _<_}
+use Prim.Native.Nat.{_≤_}
 use mathlib.Core.List.{_∷_, []}
 use lib.ListN.{length, getD}
 use Rattle.std.proofs.shelf.Lists.{take-all}

@@ -1,9 +1,9 @@
 use borrow.Author.Count.{below-more}
 use native.Mathlib.Omega.{arith}
-use mathlib.Core.Path.{_≡_, sym, _∙_}
+use mathlib.Core.Path.{sym, _∙_}
 use mathlib.Core.Logic.{_≢_}
-use Prim.Native.Nat.{ℕ, _<_}
-use lib.ListN.{length, getD}
+use Prim.Native.Nat.{_<_}
+use lib.ListN.{length}
 use Rattle.std.proofs.shelf.Lists.{getD-set-same, getD-set-other, length-set, ext-getD, getD-replicate}
 use Rattle.std.specs.declared.option.Option.the-variants.{None}
 use Rattle.model.specs.States.{noJobs}

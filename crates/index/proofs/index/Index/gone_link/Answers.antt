@@ -1,7 +1,7 @@
 use native.Mathlib.Omega.{arith}
 use Rattle.std.proofs.shelf.Ways.{tells}
 use Rattle.index.specs.Indexes.{stateOf}
-use Rattle.index.proofs.GonePages.{state-word, link-word}
+use Rattle.index.proofs.PageWords.{state-word, link-word}
 use Rattle.index.proofs.index.Index.gone_link.Needs as need
 
 pub returns-in-Gone : need.returns-in-Gone
