@@ -35,5 +35,6 @@ free-word : (w : ℕ) → isFree (stateIn w) ≡ eqb w 0
 free-word w = grind (arith, tells)
 
 -- a page is free where word 0 is 0
-pub free-at : (s : State) (p v : ℕ) → isPage s p ≡ true → v ≡ getD (s .words) (64 * p) 0 → isFree (view s p .state) ≡ eqb v 0
+pub free-at : (s : State) (p v : ℕ) → isPage s p ≡ true → v ≡ getD (s .words) (64 * p) 0
+    → isFree (view s p .state) ≡ eqb v 0
 free-at s p v here e = ap isFree (state-word s p here ∙ ap stateIn (sym e)) ∙ free-word v
