@@ -2,6 +2,7 @@
 ghost use mathlib.Core.Path.{_≡_};
 ghost use mathlib.Core.Bool.{true};
 ghost use Prim.Native.Nat.{_≤_};
+ghost use lib.Dec.{ltb};
 ghost use Rattle.order.specs.Refusals.{JustWhere};
 ghost use Rattle.page.specs.Buffers.{pageOf};
 ghost use Rattle.page.specs.Pages.{isThere};
@@ -28,6 +29,13 @@ impl<S: Store, O: Order> Index<S, O> {
             fill: 0,
             order: PhantomData,
         }
+    }
+
+    /// Whether the index is made: format or attach gave it pages.
+    pub fn is_made(&self) -> bool
+        ensures { λ r. ⌜ r ≡ ltb 0 (stateOf words (now (self .entry)) .pages) ⌝ }
+    {
+        self.pages > 0
     }
 
     /// Takes the index apart, and gives back its store.

@@ -8,7 +8,7 @@ use lib.ListN.{length, getD, set, take, drop}
 use Rattle.std.proofs.shelf.Lists.{append-nil, append-assoc, length-append, length-take, length-take-le, length-drop}
 use Rattle.std.proofs.shelf.Lists.{length-push, take-append-drop, set-at, drop-more, getD-append-left}
 use Rattle.std.proofs.shelf.Lists.{getD-take, getD-drop, take-more, same-lists, take-at, drop-at}
-use Rattle.std.proofs.shelf.Lists.{take-all, drop-drop}
+use Rattle.std.proofs.shelf.Lists.{take-all, drop-all, drop-drop}
 use Rattle.std.proofs.shelf.Parts.{putMid-paste}
 use borrow.Rule.Slice.PartMut.{putMid}
 use Rattle.store.specs.Overlay.{overlay, run}
@@ -17,6 +17,11 @@ use Rattle.store.specs.Overlay.{overlay, run}
 pub overlay-none : (w : List ℕ) (at : ℕ) → overlay w at [] ≡ w
 unfolding overlay
 overlay-none w at = rw (append-nil (take at w), add-zero at) (take-append-drop at w)
+
+-- a run as long as the list takes its place
+pub overlay-all : (w xs : List ℕ) → length xs ≡ length w → overlay w 0 xs ≡ xs
+unfolding overlay
+overlay-all w xs e = ap (λ b. xs ++ b) (drop-all (0 + length xs) w (omega arith)) ∙ append-nil xs
 
 -- the length stays
 pub length-overlay : (w : List ℕ) (at : ℕ) (xs : List ℕ) → at + length xs ≤ length w

@@ -1,0 +1,5 @@
+mod Answers
+mod Histories
+mod Replies
+mod Running
+mod Zeros
