@@ -1,7 +1,7 @@
 -- The children of an inner page, one by one.
-use Rattle.std.proofs.Common.{◌≡◌, ℕ, zero, suc, ◌+◌, ◌<◌, ◌≤◌, Bool, true, false, cond, List, [], ◌∷◌, length, drop, Some, None, Option, sym, refl, ◌∙◌, inl, inr, arith}
+use Rattle.std.proofs.Common.{◌≡◌, ℕ, zero, suc, ◌+◌, ◌<◌, ◌≤◌, Bool, true, false, cond, List, [], ◌∷◌, length, drop, Some, None, Option, sym, refl, ap, ◌∙◌, inl, inr, arith}
 use Rattle.std.proofs.lemmas.List.{at_drop_more, at_drop_all}
-use Rattle.std.proofs.lemmas.Bool.{and_parts, cases_lt, lt-ltb, le-ltb, cond-true, cond-false}
+use Rattle.std.proofs.lemmas.Bool.{and_parts, both_ways, cases_lt, lt-ltb, le-ltb, cond-true, cond-false}
 use Rattle.std.proofs.lemmas.Option.{slice_get-get_or, slice_get_past}
 use Rattle.std.specs.List.{slice_get}
 use Rattle.order.specs.declared.keys.Key.{Key}
@@ -41,6 +41,12 @@ each_child s level (e ∷ es) none (suc i) lt =
 pub child_readable : (s : State) (level : ℕ) (es : List Entry) → wrong_child s level es ≡ None
     → (i : ℕ) → i < length es → readable s.fill (view s (child_at es i)) ≡ true
 child_readable s level es none i lt = (and_parts _ _ (each_child s level es none i lt)).0
+
+-- so none of a slice that holds the entries is unreadable
+pub none_unreadable : (s : State) (level : ℕ) {slice es : List Entry} → slice ≡ es → wrong_child s level es ≡ None
+    → (i : ℕ) → i < length slice → readable s.fill (view s (child_at slice i)) ≡ false → ⊥
+none_unreadable s level {slice} same none i lt unread =
+    both_ways _ unread (child_readable s level slice (ap (wrong_child s level) same ∙ none) i lt)
 
 -- the entry at a place
 pub entry_nth : (es : List Entry) (i : ℕ) → entry_at es i ≡ slice_get es i

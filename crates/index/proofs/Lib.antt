@@ -3,8 +3,6 @@ pub mod Reading
 pub mod PageWords
 -- making an index
 pub mod FreeChains
--- splits
-pub mod Splitting
 -- turn
 pub mod Searches
 pub mod Turning

@@ -3,8 +3,6 @@ use Rattle.std.proofs.Common.{◌≡◌, ℕ, zero, suc, ◌+◌, ◌-◌, ◌<�
 use Rattle.std.specs.List.{range_with_len}
 use Rattle.std.proofs.lemmas.List.{get_or-set_same, get_or-set_other, length-set, length-replicate}
 use Rattle.std.proofs.lemmas.Bool.{and_from, and_left, and_right, or_from, or_left, or_right, both_ways, cases_lt}
-use Rattle.page.specs.declared.pages.PageState.{PageState}
-use Rattle.page.specs.declared.pages.PageState.TheVariants.{Free, Live, Gone, Damaged}
 use Rattle.model.specs.declared.jobs.Job.{Job}
 use Rattle.model.specs.States.{State, view, is_gone}
 use Rattle.model.specs.Upkeep.{any_job_on, any_gone_to, points_to, numbers, is_unreached}
@@ -39,21 +37,15 @@ none_stands p (Some j ∷ js) none =
     or_from (eqb j.page p) _ (none 0 (omega arith)) (none_stands p js (λ k lt. none (suc k) (omega arith)))
 
 -- a page is unreached if it is gone, no job stands on it and no gone page points to it
-pub unreached_here : (s : State) (p : ℕ) → (view s p).state ≡ Gone → any_job_on p s.jobs ≡ false
+pub unreached_here : (s : State) (p : ℕ) → is_gone (view s p).state ≡ true → any_job_on p s.jobs ≡ false
     → any_gone_to s p (numbers s) ≡ false → is_unreached s p ≡ true
 unreached_here s p gone stood pointed =
-    and_from (is_gone (view s p).state) _ (ap is_gone gone)
+    and_from (is_gone (view s p).state) _ gone
     (and_from (not (any_job_on p s.jobs)) (not (any_gone_to s p (numbers s))) (ap not stood) (ap not pointed))
 
-other_state : (t : PageState) → t ≢ Gone → is_gone t ≡ false
-other_state Free ne = refl
-other_state Live ne = refl
-other_state Gone ne = absurd (ne refl)
-other_state Damaged ne = refl
-
 -- any other stays
-pub not_gone : (s : State) (p : ℕ) → (view s p).state ≢ Gone → is_unreached s p ≡ false
-not_gone s p ne = and_left (is_gone (view s p).state) _ (other_state (view s p).state ne)
+pub not_gone : (s : State) (p : ℕ) → is_gone (view s p).state ≡ false → is_unreached s p ≡ false
+not_gone s p h = and_left (is_gone (view s p).state) _ h
 
 pub stood_on : (s : State) (p : ℕ) → any_job_on p s.jobs ≡ true → is_unreached s p ≡ false
 stood_on s p h = and_right (is_gone (view s p).state) _ (and_left (not (any_job_on p s.jobs)) _ (ap not h))

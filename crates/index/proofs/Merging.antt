@@ -6,8 +6,7 @@ use Rattle.page.specs.declared.entries.Entry.{Entry}
 use Rattle.page.specs.declared.pages.PageBuf.{PageBuf}
 use Rattle.page.specs.Entries.{list_of}
 use Rattle.page.specs.Pages.{Page, is_there}
-use Rattle.model.specs.declared.answers.Answer.TheVariants.{Merged}
-use Rattle.model.specs.States.{State, Outcome, answered, view, write, readable, has_form, top_level, is_fed}
+use Rattle.model.specs.States.{State, Outcome, view, write, readable, has_form, top_level, is_fed}
 use Rattle.model.specs.Upkeep.{child_at, entry_out, wrong_child, on_inner}
 use Rattle.model.specs.Upkeep.{is_small, merge_pair, joined, gone_into, merge_at, merge_page, merge}
 use Rattle.model.specs.Turns.{with_entries}
@@ -18,7 +17,7 @@ use Rattle.index.specs.Parents.{IsParent}
 use Rattle.index.proofs.Children.{child_readable}
 
 -- a page that can be worked on is not overfull
-pub readable_few : (fill : ℕ) (x : Page) → readable fill x ≡ true → length x.entries ≤ fill
+readable_few : (fill : ℕ) (x : Page) → readable fill x ≡ true → length x.entries ≤ fill
 readable_few fill x held =
     let level = (and_parts (has_form x.state) _ held).1 in
     let few = (and_parts (leb x.level top_level) _ level).1 in
@@ -98,11 +97,10 @@ module _ (s : State) (es : List Entry) (i : ℕ) (found : merge_pair s es ≡ So
 pub all_written : (s : State) (p : ℕ) (x : Page) (i a b : ℕ)
     → a ≡ child_at x.entries i → b ≡ child_at x.entries (i + 1)
     → {t u : State} {y : Page} → t ≡ children_merged a b s → y ≡ with_entries (entry_out (i + 1) x.entries) x
-    → u ≡ write p y t → answered (Merged b) u ≡ merge_at p x (Some i) s
+    → u ≡ write p y t → u ≡ (merge_at p x (Some i) s).after
 all_written s p x i a b first second both parent saved =
     let merged = both ∙ (λ t. children_merged (first t) (second t) s) in
-    let written = saved ∙ (λ t. write p (parent t) (merged t)) in
-    λ t. answered (Merged (second t)) (written t)
+    saved ∙ (λ t. write p (parent t) (merged t))
 
 -- the store has a parent
 pub parent_there : (s : State) (p : ℕ) (x : Page) → IsParent s p x → is_there s.words p ≡ true

@@ -48,24 +48,30 @@ module _ (F : List Entry → Option ℕ) (test : Entry → List Entry → Bool) 
   found_none es i past = ap (beyond i) (at_drop_all F es i past ∙ none)
 
 module _ (s : State) where
-  -- what is asked of the pages at two neighbouring places
-  merges_next : (es : List Entry) (i j : ℕ) → i ≡ j + 1 → i < length es
-      → merges_with s (get_or es j no_entry) (drop (j + 1) es) ≡ takes_next s (child_at es j) (child_at es i)
-  merges_next es i j next lt =
+  -- the pages x and y at two neighbouring places, and what is asked of them
+  merges_next : (es : List Entry) {x y : Page} (i j : ℕ) → i ≡ j + 1 → i < length es
+      → x ≡ view s (child_at es j) → y ≡ view s (child_at es i)
+      → merges_with s (get_or es j no_entry) (drop (j + 1) es) ≡ takes_next s.fill x (child_at es i) y
+  merges_next es {x} i j next lt left right =
       let inside : j + 1 < length es = omega arith in
       ap (merges_with s (get_or es j no_entry)) (drop_more es (j + 1) no_entry inside)
-      ∙ ap (λ n. takes_next s (child_at es j) (child_at es n)) (sym next)
+      ∙ (λ t. takes_next s.fill (sym left t) (child_at es (sym next t)) (view s (child_at es (sym next t))))
+      ∙ ap (takes_next s.fill x (child_at es i)) (sym right)
 
-  pub pair_here : (es : List Entry) (i j : ℕ) → i ≡ j + 1 → i < length es
-      → takes_next s (child_at es j) (child_at es i) ≡ true → beyond j (merge_pair s (drop j es)) ≡ Some j
-  pair_here es i j next lt here =
-      found_here (merge_pair s) (merges_with s) refl (λ _ _. refl) es j (omega arith) (merges_next es i j next lt ∙ here)
+  pub pair_here : (es : List Entry) {x y : Page} (i j : ℕ) → i ≡ j + 1 → i < length es
+      → x ≡ view s (child_at es j) → y ≡ view s (child_at es i)
+      → takes_next s.fill x (child_at es i) y ≡ true → beyond j (merge_pair s (drop j es)) ≡ Some j
+  pair_here es i j next lt left right here =
+      found_here (merge_pair s) (merges_with s) refl (λ _ _. refl) es j (omega arith)
+      (merges_next es i j next lt left right ∙ here)
 
-  pub pair_on : (es : List Entry) (i j : ℕ) → i ≡ j + 1 → i < length es
-      → takes_next s (child_at es j) (child_at es i) ≡ false
+  pub pair_on : (es : List Entry) {x y : Page} (i j : ℕ) → i ≡ j + 1 → i < length es
+      → x ≡ view s (child_at es j) → y ≡ view s (child_at es i)
+      → takes_next s.fill x (child_at es i) y ≡ false
       → beyond j (merge_pair s (drop j es)) ≡ beyond i (merge_pair s (drop i es))
-  pair_on es i j next lt not =
-      found_on (merge_pair s) (merges_with s) refl (λ _ _. refl) es j (omega arith) (merges_next es i j next lt ∙ not)
+  pair_on es i j next lt left right not =
+      found_on (merge_pair s) (merges_with s) refl (λ _ _. refl) es j (omega arith)
+      (merges_next es i j next lt left right ∙ not)
       ∙ ap (λ n. beyond n (merge_pair s (drop n es))) (sym next)
 
   -- the last entry has no next one

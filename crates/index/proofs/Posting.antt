@@ -1,7 +1,7 @@
 -- What post does at the place of a child that ends short.
-use Rattle.std.proofs.Common.{◌≡◌, ℕ, ◌+◌, ◌<◌, true, false, ltb, List, length, Some, Option, sym, ap, ◌∙◌, arith}
+use Rattle.std.proofs.Common.{◌≡◌, ℕ, ◌+◌, ◌<◌, ◌≤◌, List, length, Some, Option, sym, ap, ◌∙◌, arith}
 use Rattle.std.proofs.lemmas.List.{length-append}
-use Rattle.std.proofs.lemmas.Bool.{cond-true, cond-false}
+use Rattle.std.proofs.lemmas.Bool.{cond-true, cond-false, lt-ltb, le-ltb}
 use Rattle.order.specs.declared.keys.Key.{Key}
 use Rattle.page.specs.declared.entries.Entry.{Entry}
 use Rattle.page.specs.Pages.{Page}
@@ -25,22 +25,21 @@ module _ (o : KeyOrder) (s : State) where
 
   module _ (p : ℕ) (x : Page) where
     -- a full page is split
-    pub posted_full : (i : ℕ) → ltb (length x.entries) s.fill ≡ false → x ≡ view s p
+    pub posted_full : (i : ℕ) → s.fill ≤ length x.entries → x ≡ view s p
         → split_full p (view s p) s ≡ post_at o p x (Some i) s
-    posted_full i full known = ap (λ z. split_full p z s) (sym known) ∙ sym (cond-false _ _ _ full)
+    posted_full i full known =
+        ap (λ z. split_full p z s) (sym known) ∙ sym (cond-false _ _ _ (le-ltb (length x.entries) s.fill full))
 
     -- a page with room gets the entry
-    pub posted_in : (i : ℕ) → ltb (length x.entries) s.fill ≡ true
-        → {c : ℕ} → c ≡ child_at x.entries i → {y : Page} → y ≡ view s c
-        → {z : Page} → z ≡ with_entries (entry_in (i + 1) (neighbour_entry y) x.entries) x
-        → {t : State} → t ≡ write p z s → answered (Posted y.link) t ≡ post_at o p x (Some i) s
-    posted_in i room child read new saved =
+    pub posted_in : (i : ℕ) → length x.entries < s.fill
+        → {c : ℕ} → c ≡ child_at x.entries i → (y : Page) → y ≡ view s c
+        → answered (Posted y.link) (write p (with_entries (entry_in (i + 1) (neighbour_entry y) x.entries) x) s)
+        ≡ post_at o p x (Some i) s
+    posted_in i room child y read =
         let known = read ∙ ap (view s) child in
-        (λ t. answered (Posted (known t).link) (saved t))
-        ∙ (λ t. answered (Posted (view s (child_at x.entries i)).link) (write p (new t) s))
-        ∙ (λ t. answered (Posted (view s (child_at x.entries i)).link)
+        (λ t. answered (Posted (known t).link)
         (write p (with_entries (entry_in (i + 1) (neighbour_entry (known t)) x.entries) x) s))
-        ∙ sym (cond-true _ _ _ room)
+        ∙ sym (cond-true _ _ _ (lt-ltb (length x.entries) s.fill room))
 
     -- what post does with the place that was found
     pub post_found : ((work : Page → State → Outcome) → on_inner p work s ≡ work x s)

@@ -1,17 +1,13 @@
 -- A child and its right neighbour.
-use Rattle.std.specs.Prelude.{ℕ, ◌+◌, ◌/◌, Bool, ◌&&◌, ◌||◌, ◌==◌, nat_le}
+use Rattle.std.specs.Prelude.{ℕ, Bool, ◌&&◌, ◌==◌}
 use Rattle.page.specs.declared.entries.Entry.{Entry}
 use Rattle.page.specs.Pages.{Page, bound_key}
 use Rattle.model.specs.States.{State, view, write}
 use Rattle.model.specs.Upkeep.{is_small, joined, gone_into}
 
--- pages of n and m entries may become one
-abbrev pub fits_one : ℕ → ℕ → ℕ → Bool
-fits_one fill n m = nat_le (n + m) (fill / 2) || (n == 0 || m == 0)
-
--- page a takes its right neighbour, which is page b
-abbrev pub takes_next : State → ℕ → ℕ → Bool
-takes_next s a b = (view s a).link == b && is_small s.fill (view s a) (view s b)
+-- page x takes its right neighbour, which is page c and holds y
+abbrev pub takes_next : ℕ → Page → ℕ → Page → Bool
+takes_next fill x c y = x.link == c && is_small fill x y
 
 -- first the left page is written, then the right one
 abbrev pub children_merged : ℕ → ℕ → State → State

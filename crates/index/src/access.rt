@@ -3,13 +3,16 @@ ghost use Rattle.std.specs.Prelude.{◌≡◌, true, length};
 ghost use Rattle.order.specs.Refusals.{JustWhere};
 ghost use Rattle.page.specs.Buffers.{page_of};
 ghost use Rattle.page.specs.Pages.{is_there};
-ghost use Rattle.model.specs.States.{view, write, write_head, readable};
+ghost use Rattle.model.specs.States.{view, write, write_head, readable, free_head, free_page, is_free};
 ghost use Rattle.model.specs.States.{root as rootOf};
 ghost use Rattle.index.specs.Indexes.{state_of, is_page};
 
 use crate::index::Index;
+use model::Answer;
 use order::Order;
-use page::{HeadBuf, PageBuf, PageState, read_page, read_root, read_word, write_head, write_page};
+use page::{
+    HeadBuf, PageBuf, PageState, read_free, read_page, read_root, read_word, write_head, write_page,
+};
 use store::Store;
 
 pub(crate) const TOP_LEVEL: u64 = 4095;
@@ -32,7 +35,7 @@ fn is_readable(page: &PageBuf, fill: u64) -> bool
 impl<S: Store, O: Order> Index<S, O> {
     // The root, which is 0 before the index is made.
     pub(crate) fn root(&self) -> u64
-        ensures { result ≡ rootOf (state_of words self.now) }
+        ensures { result ≡ rootOf (state_of S.words self.now) }
     {
         if self.pages > 0 && self.store.length() >= 64 {
             read_root(&self.store)
@@ -41,36 +44,17 @@ impl<S: Store, O: Order> Index<S, O> {
         }
     }
 
-    // The state of a page, by its word 0. One that is not there is damaged.
-    pub(crate) fn state_of(&self, page: u64) -> PageState
-        ensures { result ≡ (view (state_of words self.now) page).state }
+    // Whether a number is that of a page of the index, page 0 aside, that the store has.
+    pub(crate) fn has(&self, page: u64) -> bool
+        ensures { result ≡ is_page (state_of S.words self.now) page }
     {
-        if page == 0 || page >= self.pages || page >= self.store.length() / 64 {
-            return PageState::Damaged;
-        }
-        PageState::from_word(read_word(&self.store, 64 * page))
-    }
-
-    // What a page that is there is linked to, by its word 3.
-    pub(crate) fn link_of(&self, page: u64) -> u64
-        requires { is_page (state_of words self.now) page ≡ true }
-        ensures { result ≡ (view (state_of words self.now) page).link }
-    {
-        read_word(&self.store, 64 * page + 3)
-    }
-
-    // How many entries it has, by its word 2.
-    pub(crate) fn count_of(&self, page: u64) -> u64
-        requires { is_page (state_of words self.now) page ≡ true }
-        ensures { result ≡ length (view (state_of words self.now) page).entries }
-    {
-        read_word(&self.store, 64 * page + 2)
+        page > 0 && page < self.pages && page < self.store.length() / 64
     }
 
     // A page that can be worked on.
     pub(crate) fn page(&self, page: u64) -> Option<PageBuf>
-        ensures { JustWhere (readable self.now.fill (view (state_of words self.now) page))
-            (λ b. page_of b ≡ view (state_of words self.now) page) result }
+        ensures { JustWhere (readable self.now.fill (view (state_of S.words self.now) page))
+            (λ b. page_of b ≡ view (state_of S.words self.now) page) result }
     {
         if page == 0 || page >= self.pages {
             return None;
@@ -85,31 +69,20 @@ impl<S: Store, O: Order> Index<S, O> {
         }
     }
 
-    // A page that was found to be readable before.
-    pub(crate) fn known_page(&self, page: u64) -> PageBuf
-        requires { readable self.now.fill (view (state_of words self.now) page) ≡ true }
-        ensures { page_of result ≡ view (state_of words self.now) page }
-    {
-        match self.page(page) {
-            Some(found) => found,
-            None => unreachable(),
-        }
-    }
-
     // Writes a page that is there.
     pub(crate) fn save(&mut self, page: u64, buf: &PageBuf)
-        requires { is_there (words self.old.store) page ≡ true }
-        ensures state { state_of words self.new
-            ≡ write page (page_of buf.now) (state_of words self.old) }
-        ensures long { length (words self.new.store) ≡ length (words self.old.store) }
+        requires { is_there (S.words self.old.store) page ≡ true }
+        ensures state { state_of S.words self.new
+            ≡ write page (page_of buf.now) (state_of S.words self.old) }
+        ensures long { length (S.words self.new.store) ≡ length (S.words self.old.store) }
     {
         write_page(&mut self.store, page, buf);
     }
 
     // Writes page 0, which is there.
     pub(crate) fn save_head(&mut self, free: u64, root: u64)
-        requires { is_there (words self.old.store) 0 ≡ true }
-        ensures { state_of words self.new ≡ write_head free root (state_of words self.old) }
+        requires { is_there (S.words self.old.store) 0 ≡ true }
+        ensures { state_of S.words self.new ≡ write_head free root (state_of S.words self.old) }
     {
         let head = HeadBuf {
             pages: self.pages,

@@ -12,8 +12,8 @@ impl<S: Store, O: Order> Index<S, O> {
     /// Makes an index of the store, with a fill of 4 to 18: one empty leaf, the other pages free, every console idle.
     /// 20 with the number of pages. Refused: 1 fewer than 128 words, 2 no such fill.
     pub fn format(&mut self, fill: u64) -> (u64, u64)
-        ensures { FormatCalled fill (state_of words self.old)
-            result.0 result.1 (state_of words self.new) }
+        ensures { FormatCalled fill (state_of S.words self.old)
+            result.0 result.1 (state_of S.words self.new) }
     {
         self.format_step(fill).pair()
     }
@@ -21,8 +21,8 @@ impl<S: Store, O: Order> Index<S, O> {
     /// Takes a store that holds an index, by its page 0 alone, and leaves every console idle.
     /// 20 with the number of pages. Refused: 1 fewer than 128 words, 3 page 0 is not that of an index.
     pub fn attach(&mut self) -> (u64, u64)
-        ensures { AttachCalled (state_of words self.old)
-            result.0 result.1 (state_of words self.new) }
+        ensures { AttachCalled (state_of S.words self.old)
+            result.0 result.1 (state_of S.words self.new) }
     {
         self.attach_step().pair()
     }
@@ -30,8 +30,8 @@ impl<S: Store, O: Order> Index<S, O> {
     /// Gives a console a job of a kind (1 look, 2 enter, 3 strike) for a key and a value; it stands on the root. 20.
     /// Refused: 4 no such console, 5 it has a job, 7 no such kind or no key.
     pub fn begin(&mut self, console: u64, kind: u64, key: Key, value: u64) -> (u64, u64)
-        ensures { Called (rule_of keyed compared) (beginCall console kind key value)
-            (state_of words self.old) result.0 result.1 (state_of words self.new) }
+        ensures { Called (rule_of O.keyed O.compared) (beginCall console kind key value)
+            (state_of S.words self.old) result.0 result.1 (state_of S.words self.new) }
     {
         self.begin_step(console, kind, key, value).pair()
     }
@@ -41,9 +41,9 @@ impl<S: Store, O: Order> Index<S, O> {
     /// none, 25 entered, 26 this value is held already, 27 struck this value.
     /// Refused: 4 no such console, 6 it has no job, 8 this page is not what it should be, 9 no page is free.
     pub fn turn(&mut self, console: u64) -> (u64, u64)
-        ensures called { Called (rule_of keyed compared) (turnCall console) (state_of words self.old)
-            result.0 result.1 (state_of words self.new) }
-        ensures alone { EndsAlone (rule_of keyed compared) console (state_of words self.old) }
+        ensures called { Called (rule_of O.keyed O.compared) (turnCall console) (state_of S.words self.old)
+            result.0 result.1 (state_of S.words self.new) }
+        ensures alone { EndsAlone (rule_of O.keyed O.compared) console (state_of S.words self.old) }
     {
         self.turn_step(console).pair()
     }
@@ -51,8 +51,8 @@ impl<S: Store, O: Order> Index<S, O> {
     /// Drops a console's job. 28 with the page on which it stood.
     /// Refused: 4 no such console, 6 it has no job.
     pub fn withdraw(&mut self, console: u64) -> (u64, u64)
-        ensures { Called (rule_of keyed compared) (withdrawCall console) (state_of words self.old)
-            result.0 result.1 (state_of words self.new) }
+        ensures { Called (rule_of O.keyed O.compared) (withdrawCall console) (state_of S.words self.old)
+            result.0 result.1 (state_of S.words self.new) }
     {
         self.withdraw_step(console).pair()
     }
@@ -61,8 +61,8 @@ impl<S: Store, O: Order> Index<S, O> {
     /// it; 22 with the new page where the page is full and is split instead.
     /// Refused: 10 no such inner page, 8 this child is wrong, 11 nothing to do, 9 no page is free.
     pub fn post(&mut self, page: u64) -> (u64, u64)
-        ensures { Called (rule_of keyed compared) (postCall page) (state_of words self.old)
-            result.0 result.1 (state_of words self.new) }
+        ensures { Called (rule_of O.keyed O.compared) (postCall page) (state_of S.words self.old)
+            result.0 result.1 (state_of S.words self.new) }
     {
         self.post_step(page).pair()
     }
@@ -70,8 +70,8 @@ impl<S: Store, O: Order> Index<S, O> {
     /// Joins the first two small neighbours under an inner page. 30 with the page that is gone now.
     /// Refused: 10 no such inner page, 8 this child is wrong, 11 nothing to do.
     pub fn merge(&mut self, page: u64) -> (u64, u64)
-        ensures { Called (rule_of keyed compared) (mergeCall page) (state_of words self.old)
-            result.0 result.1 (state_of words self.new) }
+        ensures { Called (rule_of O.keyed O.compared) (mergeCall page) (state_of S.words self.old)
+            result.0 result.1 (state_of S.words self.new) }
     {
         self.merge_step(page).pair()
     }
@@ -79,8 +79,8 @@ impl<S: Store, O: Order> Index<S, O> {
     /// Puts a new root over a root that has a right neighbour. 31 with it.
     /// Refused: 8 the root is wrong, 11 it has no neighbour, 9 no page is free.
     pub fn raise(&mut self) -> (u64, u64)
-        ensures { Called (rule_of keyed compared) raiseCall (state_of words self.old)
-            result.0 result.1 (state_of words self.new) }
+        ensures { Called (rule_of O.keyed O.compared) raiseCall (state_of S.words self.old)
+            result.0 result.1 (state_of S.words self.new) }
     {
         self.raise_step().pair()
     }
@@ -88,8 +88,8 @@ impl<S: Store, O: Order> Index<S, O> {
     /// Frees every gone page on which no job stands and to which no gone page points. 32 with their number.
     /// Refused: 11 there is none.
     pub fn sweep(&mut self) -> (u64, u64)
-        ensures { Called (rule_of keyed compared) sweepCall (state_of words self.old)
-            result.0 result.1 (state_of words self.new) }
+        ensures { Called (rule_of O.keyed O.compared) sweepCall (state_of S.words self.old)
+            result.0 result.1 (state_of S.words self.new) }
     {
         self.sweep_step().pair()
     }

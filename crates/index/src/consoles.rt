@@ -1,5 +1,5 @@
 //! The jobs of the 32 consoles.
-ghost use Rattle.std.specs.Prelude.{◌≡◌, length, None, slice_index_or, slice_set};
+ghost use Rattle.std.specs.Prelude.{◌≡◌, length, replicate, None, slice_index_or, slice_set};
 ghost use Rattle.model.specs.States.{no_jobs};
 ghost use Rattle.index.specs.Jobs.{is_on, sent_to};
 
@@ -42,13 +42,6 @@ impl Consoles {
         for (_console, job) in self.jobs.iter_mut().enumerate() {
             *job = None;
         }
-    }
-
-    /// The jobs of all consoles, by their numbers.
-    pub fn jobs(&self) -> &[Option<Job>]
-        ensures { result.now ≡ self.now.jobs }
-    {
-        &self.jobs
     }
 
     /// The job of a console, `None` for an idle one and for a number that is no console's.

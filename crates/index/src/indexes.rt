@@ -1,18 +1,23 @@
 //! What an index is, and how its pages are reached.
-ghost use Rattle.std.specs.Prelude.{◌≡◌, nat_lt};
+ghost use Rattle.std.specs.Prelude.{◌≡◌, ◌≤◌, true, nat_lt};
+ghost use Rattle.order.specs.Refusals.{JustWhere};
+ghost use Rattle.page.specs.Buffers.{page_of};
+ghost use Rattle.page.specs.Pages.{is_there};
 ghost use Rattle.model.specs.Starts.{unmade};
+ghost use Rattle.model.specs.States as states;
 ghost use Rattle.index.specs.Indexes.{state_of};
 
 use crate::consoles::Consoles;
 use crate::index::Index;
 use order::Order;
+use page::{HeadBuf, PageBuf};
 use std::marker::PhantomData;
 use store::Store;
 
 impl<S: Store, O: Order> Index<S, O> {
     /// An index over a store that is not made yet: it has no pages and no root, and its consoles are idle.
     pub fn new(store: S) -> Index<S, O>
-        ensures { state_of words result ≡ unmade (words store) }
+        ensures { state_of S.words result ≡ unmade (S.words store) }
     {
         Index {
             store,
@@ -25,7 +30,7 @@ impl<S: Store, O: Order> Index<S, O> {
 
     /// Whether the index is made: format or attach gave it pages.
     pub fn is_made(&self) -> bool
-        ensures { result ≡ nat_lt 0 (state_of words self.now).pages }
+        ensures { result ≡ nat_lt 0 (state_of S.words self.now).pages }
     {
         self.pages > 0
     }

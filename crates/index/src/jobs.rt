@@ -1,6 +1,5 @@
 //! How a console gets a job, and how it drops one.
 ghost use Rattle.std.specs.Prelude.{◌≡◌};
-ghost use Rattle.model.specs.States.{answered};
 ghost use Rattle.model.specs.Turns.{begin, withdraw, kind_of};
 ghost use Rattle.index.specs.Indexes.{state_of, rule_of};
 
@@ -25,8 +24,10 @@ fn kind_of(number: u64) -> Option<Kind>
 impl<S: Store, O: Order> Index<S, O> {
     // Gives an idle console a job, which stands on the root.
     pub(crate) fn begin_step(&mut self, console: u64, kind: u64, key: Key, value: u64) -> Answer
-        ensures { answered result (state_of words self.new)
-            ≡ begin (rule_of keyed compared) console kind key value (state_of words self.old) }
+        ensures answer { result
+            ≡ (begin (rule_of O.keyed O.compared) console kind key value (state_of S.words self.old)).answer }
+        ensures state { state_of S.words self.new
+            ≡ (begin (rule_of O.keyed O.compared) console kind key value (state_of S.words self.old)).after }
     {
         if console >= CONSOLES as u64 {
             return Answer::NoConsole;
@@ -50,8 +51,9 @@ impl<S: Store, O: Order> Index<S, O> {
 
     // Drops a console's job.
     pub(crate) fn withdraw_step(&mut self, console: u64) -> Answer
-        ensures { answered result (state_of words self.new)
-            ≡ withdraw console (state_of words self.old) }
+        ensures answer { result ≡ (withdraw console (state_of S.words self.old)).answer }
+        ensures state { state_of S.words self.new
+            ≡ (withdraw console (state_of S.words self.old)).after }
     {
         if console >= CONSOLES as u64 {
             return Answer::NoConsole;

@@ -1,4 +1,6 @@
 //! The load index: a B-link tree over the pages of any store, under any order of keys.
+#![tactic(auto)]
+
 mod access;
 mod calls;
 mod consoles;

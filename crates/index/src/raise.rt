@@ -3,7 +3,7 @@ ghost use Rattle.std.specs.Prelude.{◌≡◌, ◌<◌, true};
 ghost use Rattle.order.specs.Refusals.{JustWhere};
 ghost use Rattle.page.specs.Buffers.{page_of};
 ghost use Rattle.page.specs.Pages.{is_there};
-ghost use Rattle.model.specs.States.{answered, view, write, write_head};
+ghost use Rattle.model.specs.States.{view, write, write_head};
 ghost use Rattle.model.specs.Upkeep.{can_rise, raise, root_over};
 ghost use Rattle.index.specs.Indexes.{state_of};
 
@@ -37,8 +37,8 @@ fn root_over(root: u64, old: &PageBuf) -> PageBuf
 impl<S: Store, O: Order> Index<S, O> {
     // A live page over which there may be another level.
     fn page_below_top(&self, page: u64) -> Option<PageBuf>
-        ensures { JustWhere (can_rise self.now.fill (view (state_of words self.now) page))
-            (λ b. page_of b ≡ view (state_of words self.now) page) result }
+        ensures { JustWhere (can_rise self.now.fill (view (state_of S.words self.now) page))
+            (λ b. page_of b ≡ view (state_of S.words self.now) page) result }
     {
         let found = self.page(page)?;
         match found.state {
@@ -50,10 +50,10 @@ impl<S: Store, O: Order> Index<S, O> {
     // Makes a page that was taken off the free chain the root over the old one; `next` is the page behind it.
     fn put_root_over(&mut self, root: u64, old: &PageBuf, new: u64, next: u64)
         requires level { old.now.level < 4095 }
-        requires there { is_there (words self.old.store) new ≡ true }
-        ensures { state_of words self.new
+        requires there { is_there (S.words self.old.store) new ≡ true }
+        ensures { state_of S.words self.new
             ≡ write_head next new
-            (write new (root_over root (page_of old.now)) (state_of words self.old)) }
+            (write new (root_over root (page_of old.now)) (state_of S.words self.old)) }
     {
         self.save(new, &root_over(root, old));
         self.save_head(next, new);
@@ -61,7 +61,8 @@ impl<S: Store, O: Order> Index<S, O> {
 
     // The call `raise`.
     pub(crate) fn raise_step(&mut self) -> Answer
-        ensures { answered result (state_of words self.new) ≡ raise (state_of words self.old) }
+        ensures answer { result ≡ (raise (state_of S.words self.old)).answer }
+        ensures state { state_of S.words self.new ≡ (raise (state_of S.words self.old)).after }
     {
         let root = self.root();
         let Some(old) = self.page_below_top(root) else {

@@ -1,16 +1,17 @@
 //! Taking a free page, and the split of a full one.
-ghost use Rattle.std.specs.Prelude.{◌≡◌, true, Ok, Err, MatchResult};
+ghost use Rattle.std.specs.Prelude.{◌≡◌, true, length, Ok, Err, MatchResult};
+ghost use Rattle.order.specs.Refusals.{JustWhere};
 ghost use Rattle.page.specs.Buffers.{page_of};
 ghost use Rattle.page.specs.Entries.{list_of};
 ghost use Rattle.page.specs.Pages.{is_there};
-ghost use Rattle.model.specs.States.{answered, view, free_page};
+ghost use Rattle.model.specs.States.{view, free_page, is_free};
 ghost use Rattle.model.specs.Splits.{first_key, upper_page, relinked, shortened, split_full};
 ghost use Rattle.index.specs.Indexes.{state_of};
 
 use crate::index::Index;
 use model::Answer;
 use order::{Key, Order};
-use page::{Entries, PageBuf, PageState, read_free};
+use page::{Entries, PageBuf, PageState, read_free, read_word};
 use store::Store;
 
 // The first key of some entries, zeros where there are none.
@@ -45,37 +46,55 @@ fn split_off(page: &mut PageBuf, fill: u64, new: u64) -> PageBuf
 }
 
 impl<S: Store, O: Order> Index<S, O> {
+    // The page behind a free one in the chain, or `None` where the page is not free.
+    fn free_link(&self, page: u64) -> Option<u64>
+        ensures { JustWhere (is_free (view (state_of S.words self.now) page).state)
+            (λ next. next ≡ (view (state_of S.words self.now) page).link) result }
+    {
+        if page == 0 || page >= self.pages || page >= self.store.length() / 64 {
+            return None;
+        }
+        if read_word(&self.store, 64 * page) == 0 {
+            Some(read_word(&self.store, 64 * page + 3))
+        } else {
+            None
+        }
+    }
+
     // The first free page and the one behind it, or why there is none.
     pub(crate) fn free_page(&self) -> Result<(u64, u64), Answer>
         ensures { MatchResult result
-            (λ taken. (free_page (state_of words self.now) ≡ Ok taken.0)
-            × (is_there (words self.now.store) taken.0 ≡ true)
-            × (taken.1 ≡ (view (state_of words self.now) taken.0).link))
-            (λ refusal. free_page (state_of words self.now) ≡ Err refusal) }
+            (λ taken. (free_page (state_of S.words self.now) ≡ Ok taken.0)
+            × (is_there (S.words self.now.store) taken.0 ≡ true)
+            × (taken.1 ≡ (view (state_of S.words self.now) taken.0).link))
+            (λ refusal. free_page (state_of S.words self.now) ≡ Err refusal) }
     {
         let head = read_free(&self.store);
         if head == 0 {
             return Err(Answer::NoFreePage);
         }
-        match self.state_of(head) {
-            PageState::Free => Ok((head, self.link_of(head))),
-            PageState::Live | PageState::Gone | PageState::Damaged => Err(Answer::Unreadable(head)),
+        match self.free_link(head) {
+            Some(next) => Ok((head, next)),
+            None => Err(Answer::Unreadable(head)),
         }
     }
 
     // Splits a full page, if there is a free page for it.
-    pub(crate) fn split_full(&mut self, page: u64, buf: &PageBuf) -> Answer
-        requires read { page_of buf.now ≡ view (state_of words self.old) page }
-        requires there { is_there (words self.old.store) page ≡ true }
-        ensures { answered result (state_of words self.new)
-            ≡ split_full page (view (state_of words self.old) page) (state_of words self.old) }
+    pub(crate) fn split_full(&mut self, page: u64, buf: PageBuf) -> Answer
+        requires read { page_of buf ≡ view (state_of S.words self.old) page }
+        requires there { is_there (S.words self.old.store) page ≡ true }
+        ensures answer { result ≡ (split_full page (view (state_of S.words self.old) page)
+            (state_of S.words self.old)).answer }
+        ensures state { state_of S.words self.new
+            ≡ (split_full page (view (state_of S.words self.old) page)
+            (state_of S.words self.old)).after }
     {
         let (new, next) = match self.free_page() {
             Ok(taken) => taken,
             Err(refusal) => return refusal,
         };
         let root = self.root();
-        let mut lower = *buf;
+        let mut lower = buf;
         let upper = split_off(&mut lower, self.fill, new);
         self.save(new, &upper);
         self.save(page, &lower);

@@ -2,7 +2,6 @@
 ghost use Rattle.std.specs.Prelude.{◌≡◌, ◌-◌, ◌*◌, ◌≤◌, length};
 ghost use Rattle.std.specs.List.{range_with_len};
 ghost use Rattle.page.specs.Buffers.{page_of};
-ghost use Rattle.model.specs.States.{answered};
 ghost use Rattle.model.specs.Starts.{format, attach, made, format_words, free_chain, empty_leaf, next_of, is_fill, pages_in};
 ghost use Rattle.model.specs.Upkeep.{free_page_to};
 ghost use Rattle.index.specs.Indexes.{state_of};
@@ -40,7 +39,7 @@ fn is_fill(fill: u64) -> bool
 
 // The pages of a store, of which an index takes no more than it may have.
 fn pages_in<S: Store>(store: &S) -> u64
-    ensures { result ≡ pages_in (words store.now) }
+    ensures { result ≡ pages_in (S.words store.now) }
 {
     (store.length() / PAGE_WORDS as u64).min(MOST_PAGES)
 }
@@ -83,9 +82,9 @@ pub(crate) fn free_page_to(next: u64) -> PageBuf
 
 // Lays the free chain through the pages behind the root, in rising order.
 fn lay_free_chain<S: Store>(store: &mut S, pages: u64)
-    requires { (2 ≤ pages) × (pages ≤ 4096) × (64 * pages ≤ length (words store.old)) }
-    ensures { words store.new
-        ≡ free_chain pages (range_with_len 2 (pages - 2)) (words store.old) }
+    requires { (2 ≤ pages) × (pages ≤ 4096) × (64 * pages ≤ length (S.words store.old)) }
+    ensures { S.words store.new
+        ≡ free_chain pages (range_with_len 2 (pages - 2)) (S.words store.old) }
 {
     for page in FIRST_FREE..pages {
         write_page(store, page, &free_page_to(next_of(pages, page)));
@@ -94,8 +93,8 @@ fn lay_free_chain<S: Store>(store: &mut S, pages: u64)
 
 // Writes all pages of a new index.
 fn lay_pages<S: Store>(store: &mut S, pages: u64, fill: u64)
-    requires { (2 ≤ pages) × (pages ≤ 4096) × (64 * pages ≤ length (words store.old)) }
-    ensures { words store.new ≡ format_words pages fill (words store.old) }
+    requires { (2 ≤ pages) × (pages ≤ 4096) × (64 * pages ≤ length (S.words store.old)) }
+    ensures { S.words store.new ≡ format_words pages fill (S.words store.old) }
 {
     let head = HeadBuf {
         pages,
@@ -113,7 +112,7 @@ impl<S: Store, O: Order> Index<S, O> {
     fn start(&mut self, pages: u64, fill: u64)
         requires few { fill ≤ 18 }
         requires bounded { pages ≤ 4096 }
-        ensures { state_of words self.new ≡ made pages fill (words self.old.store) }
+        ensures { state_of S.words self.new ≡ made pages fill (S.words self.old.store) }
     {
         self.pages = pages;
         self.fill = fill;
@@ -122,8 +121,9 @@ impl<S: Store, O: Order> Index<S, O> {
 
     // Makes an empty index on the store.
     pub(crate) fn format_step(&mut self, fill: u64) -> Answer
-        ensures { answered result (state_of words self.new)
-            ≡ format fill (state_of words self.old) }
+        ensures answer { result ≡ (format fill (state_of S.words self.old)).answer }
+        ensures state { state_of S.words self.new
+            ≡ (format fill (state_of S.words self.old)).after }
     {
         if self.store.length() < LEAST_WORDS {
             return Answer::StoreTooSmall;
@@ -139,7 +139,8 @@ impl<S: Store, O: Order> Index<S, O> {
 
     // Takes up the index that stands on the store.
     pub(crate) fn attach_step(&mut self) -> Answer
-        ensures { answered result (state_of words self.new) ≡ attach (state_of words self.old) }
+        ensures answer { result ≡ (attach (state_of S.words self.old)).answer }
+        ensures state { state_of S.words self.new ≡ (attach (state_of S.words self.old)).after }
     {
         if self.store.length() < LEAST_WORDS {
             return Answer::StoreTooSmall;

@@ -1,44 +1,73 @@
 //! Sweep: the gone pages that nothing leads to any more are free again.
 ghost use Rattle.std.specs.Prelude.{◌≡◌, true, length};
+ghost use Rattle.order.specs.Refusals.{JustWhere};
+ghost use Rattle.page.specs.Buffers.{page_of};
 ghost use Rattle.page.specs.Pages.{is_there};
-ghost use Rattle.model.specs.States.{answered, view};
-ghost use Rattle.model.specs.Upkeep.{give_back, give_back_all, points_to, sweep};
+ghost use Rattle.model.specs.States.{view, is_gone};
+ghost use Rattle.model.specs.Upkeep.{free_page_to, give_back, give_back_all, points_to, sweep};
 ghost use Rattle.index.specs.Indexes.{state_of};
 ghost use Rattle.index.specs.Sweeps.{MarkedBelow, all_unreached};
 
-use crate::consoles::is_on;
+use crate::consoles::{CONSOLES, is_on};
 use crate::index::Index;
-use crate::starts::free_page_to;
 use model::Answer;
 use order::Order;
-use page::{PageState, read_free};
+use page::{Entries, PageBuf, PageState, read_free, read_word};
 use store::Store;
 
 // The most pages that an index has.
 const MOST_PAGES: usize = 4096;
 
+// A free page that points to the next one.
+fn free_page_to(next: u64) -> PageBuf
+    ensures { page_of result ≡ free_page_to next }
+{
+    PageBuf {
+        state: PageState::Free,
+        level: 0,
+        link: next,
+        start: None,
+        end: None,
+        entries: Entries::new(),
+    }
+}
+
 impl<S: Store, O: Order> Index<S, O> {
+    // The page that a gone page points to. Only its words 0 and 3 are read.
+    fn gone_link(&self, page: u64) -> Option<u64>
+        ensures { JustWhere (is_gone (view (state_of S.words self.now) page).state)
+            (λ link. link ≡ (view (state_of S.words self.now) page).link) result }
+    {
+        if !self.has(page) {
+            return None;
+        }
+        match PageState::from_word(read_word(&self.store, 64 * page)) {
+            PageState::Gone => Some(read_word(&self.store, 64 * page + 3)),
+            PageState::Free | PageState::Live | PageState::Damaged => None,
+        }
+    }
+
     // Whether one page is gone and points to another.
     fn points_to(&self, from: u64, page: u64) -> bool
-        ensures { result ≡ points_to page (view (state_of words self.now) from) }
+        ensures { result ≡ points_to page (view (state_of S.words self.now) from) }
     {
-        match self.state_of(from) {
-            PageState::Gone => self.link_of(from) == page,
-            PageState::Free | PageState::Live | PageState::Damaged => false,
+        match self.gone_link(from) {
+            Some(link) => link == page,
+            None => false,
         }
     }
 
     // Marks the gone pages on which no job stands and to which no gone page points.
     fn unreached(&self) -> [bool; MOST_PAGES]
-        ensures { MarkedBelow (state_of words self.now) self.now.pages result }
+        ensures { MarkedBelow (state_of S.words self.now) self.now.pages result }
     {
         let mut marked = [false; MOST_PAGES];
         'pages: for page in 1..self.pages {
-            let PageState::Gone = self.state_of(page) else {
+            let Some(_) = self.gone_link(page) else {
                 continue 'pages;
             };
-            for (_console, job) in self.consoles.jobs().iter().enumerate() {
-                if is_on(*job, page) {
+            for console in 0..CONSOLES as u64 {
+                if is_on(self.consoles.job(console), page) {
                     continue 'pages;
                 }
             }
@@ -54,8 +83,8 @@ impl<S: Store, O: Order> Index<S, O> {
 
     // Puts a page that is there at the head of the free chain.
     fn give_back(&mut self, page: u64)
-        requires { is_there (words self.old.store) page ≡ true }
-        ensures { state_of words self.new ≡ give_back page (state_of words self.old) }
+        requires { is_there (S.words self.old.store) page ≡ true }
+        ensures { state_of S.words self.new ≡ give_back page (state_of S.words self.old) }
     {
         let root = self.root();
         let next = read_free(&self.store);
@@ -65,10 +94,10 @@ impl<S: Store, O: Order> Index<S, O> {
 
     // Frees the marked pages, and says how many.
     fn free_marked(&mut self, marked: &[bool; MOST_PAGES]) -> u64
-        requires { MarkedBelow (state_of words self.old) self.old.pages marked.now }
-        ensures count { result ≡ length (all_unreached (state_of words self.old)) }
-        ensures state { state_of words self.new
-            ≡ give_back_all (all_unreached (state_of words self.old)) (state_of words self.old) }
+        requires { MarkedBelow (state_of S.words self.old) self.old.pages marked.now }
+        ensures count { result ≡ length (all_unreached (state_of S.words self.old)) }
+        ensures state { state_of S.words self.new
+            ≡ give_back_all (all_unreached (state_of S.words self.old)) (state_of S.words self.old) }
     {
         let mut freed = 0;
         for page in 1..self.pages {
@@ -82,7 +111,8 @@ impl<S: Store, O: Order> Index<S, O> {
 
     // The call `sweep`. All pages are found before any is freed, since a freed page no longer points to another.
     pub(crate) fn sweep_step(&mut self) -> Answer
-        ensures { answered result (state_of words self.new) ≡ sweep (state_of words self.old) }
+        ensures answer { result ≡ (sweep (state_of S.words self.old)).answer }
+        ensures state { state_of S.words self.new ≡ (sweep (state_of S.words self.old)).after }
     {
         let marked = self.unreached();
         match self.free_marked(&marked) {

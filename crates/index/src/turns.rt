@@ -1,13 +1,14 @@
 //! One turn of a console: its job reads the page on which it stands, and goes on from it or is finished there.
-ghost use Rattle.std.specs.Prelude.{◌≡◌, ◌<◌, true, cond, length, Some, None, ◌==◌, nat_lt};
+ghost use Rattle.std.specs.Prelude.{◌≡◌, ◌<◌, true, length, Some, None};
 ghost use Rattle.page.specs.Buffers.{page_of};
 ghost use Rattle.page.specs.Entries.{list_of};
 ghost use Rattle.page.specs.Pages.{is_there};
 ghost use Rattle.model.specs.Entries.{find, insert, remove};
-ghost use Rattle.model.specs.States.{answered, view};
-ghost use Rattle.model.specs.Turns.{turn, turn_state, turn_leaf, finish, is_past, child_of, job_at};
-ghost use Rattle.model.specs.declared.jobs.Kind.TheVariants.{Enter as EnterKind, Strike as StrikeKind};
-ghost use Rattle.index.specs.Turns.{sent};
+ghost use Rattle.model.specs.States.{view, with_job};
+ghost use Rattle.model.specs.Turns.{turn, turn_state, is_past, child_of, job_at};
+ghost use Rattle.model.specs.declared.answers.Answer.TheVariants.{Moved, Entered, Struck};
+ghost use Rattle.index.specs.Jobs.{sent_to};
+ghost use Rattle.index.specs.Turns.{entered, struck};
 ghost use Rattle.index.specs.Indexes.{state_of, rule_of};
 ghost use Rattle.index.specs.Searches.{PlaceFor, TakenAt};
 
@@ -22,7 +23,7 @@ use store::Store;
 
 // Whether a key is too large for a page.
 fn is_past<O: Order>(page: &PageBuf, key: Key) -> bool
-    ensures { result ≡ is_past (rule_of keyed compared) key page.now.end }
+    ensures { result ≡ is_past (rule_of O.keyed O.compared) key page.now.end }
 {
     match page.end {
         None => false,
@@ -35,7 +36,7 @@ fn is_past<O: Order>(page: &PageBuf, key: Key) -> bool
 
 // The value that is held for a key.
 fn find<O: Order>(entries: &[Entry], key: Key) -> Option<u64>
-    ensures { result ≡ find (rule_of keyed compared) key entries.now }
+    ensures { result ≡ find (rule_of O.keyed O.compared) key entries.now }
 {
     for held in entries {
         match O::compare(held.key, key) {
@@ -46,29 +47,10 @@ fn find<O: Order>(entries: &[Entry], key: Key) -> Option<u64>
     None
 }
 
-// The value that a leaf holds for a key; an inner page holds none.
-fn held<O: Order>(page: &PageBuf, key: Key) -> Option<u64>
-    ensures { result ≡ cond (page.now.level == 0)
-        (find (rule_of keyed compared) key (list_of page.now.entries)) None }
-{
-    if page.level == 0 {
-        find::<O>(page.entries.as_slice(), key)
-    } else {
-        None
-    }
-}
-
-// Whether a page has room for another entry.
-pub(crate) fn has_room(page: &PageBuf, fill: u64) -> bool
-    ensures { result ≡ nat_lt (length (list_of page.now.entries)) fill }
-{
-    (page.entries.len() as u64) < fill
-}
-
 // The page to which an inner page sends a key: that of the last entry whose key is not after it.
 // The first entry counts whatever its key.
 fn child_of<O: Order>(entries: &[Entry], key: Key) -> u64
-    ensures { result ≡ child_of (rule_of keyed compared) key entries.now }
+    ensures { result ≡ child_of (rule_of O.keyed O.compared) key entries.now }
 {
     let [first, rest @ ..] = entries else {
         return 0;
@@ -85,7 +67,7 @@ fn child_of<O: Order>(entries: &[Entry], key: Key) -> u64
 
 // Where an entry goes: before the first that is after it.
 fn place_for<O: Order>(entries: &[Entry], new: Entry) -> usize
-    ensures { PlaceFor (rule_of keyed compared) new entries.now result }
+    ensures { PlaceFor (rule_of O.keyed O.compared) new entries.now result }
 {
     for (at, held) in entries.iter().enumerate() {
         match O::compare(held.key, new.key) {
@@ -98,7 +80,7 @@ fn place_for<O: Order>(entries: &[Entry], new: Entry) -> usize
 
 // Where the entry for a key stands.
 fn place_of<O: Order>(entries: &[Entry], key: Key) -> Option<usize>
-    ensures { TakenAt (rule_of keyed compared) key entries.now result }
+    ensures { TakenAt (rule_of O.keyed O.compared) key entries.now result }
 {
     for (at, held) in entries.iter().enumerate() {
         match O::compare(held.key, key) {
@@ -113,7 +95,7 @@ fn place_of<O: Order>(entries: &[Entry], key: Key) -> Option<usize>
 fn put_in<O: Order>(entries: &mut Entries, new: Entry)
     requires { length (list_of entries.old) < 18 }
     ensures { list_of entries.new
-        ≡ insert (rule_of keyed compared) new (list_of entries.old) }
+        ≡ insert (rule_of O.keyed O.compared) new (list_of entries.old) }
 {
     let at = place_for::<O>(entries.as_slice(), new);
     entries.insert(at, new);
@@ -122,7 +104,7 @@ fn put_in<O: Order>(entries: &mut Entries, new: Entry)
 // Takes the entry for a key out, if there is one.
 fn take_out<O: Order>(entries: &mut Entries, key: Key)
     ensures { list_of entries.new
-        ≡ remove (rule_of keyed compared) key (list_of entries.old) }
+        ≡ remove (rule_of O.keyed O.compared) key (list_of entries.old) }
 {
     if let Some(at) = place_of::<O>(entries.as_slice(), key) {
         entries.remove(at);
@@ -132,8 +114,10 @@ fn take_out<O: Order>(entries: &mut Entries, key: Key)
 impl<S: Store, O: Order> Index<S, O> {
     // Sends a console's job to another page.
     fn go(&mut self, console: u64, page: u64) -> Answer
-        ensures { answered result (state_of words self.new)
-            ≡ sent console page (state_of words self.old) }
+        ensures answer { result ≡ Moved page }
+        ensures state { state_of S.words self.new
+            ≡ with_job console (sent_to page (job_at (state_of S.words self.old) console))
+            (state_of S.words self.old) }
     {
         self.consoles.send(console, page);
         Answer::Moved(page)
@@ -141,72 +125,81 @@ impl<S: Store, O: Order> Index<S, O> {
 
     // Finishes a console's job with an answer.
     fn finish(&mut self, console: u64, answer: Answer) -> Answer
-        ensures { answered result (state_of words self.new)
-            ≡ finish console answer (state_of words self.old) }
+        ensures answer { result ≡ answer }
+        ensures state { state_of S.words self.new
+            ≡ with_job console None (state_of S.words self.old) }
     {
         self.consoles.assign(console, None);
         answer
     }
 
     // Puts a job's entry into the leaf on which it stands, which has room for it.
-    fn enter(&mut self, console: u64, job: Job, leaf: &PageBuf) -> Answer
-        requires there { is_there (words self.old.store) job.page ≡ true }
-        requires room { length (list_of leaf.now.entries) < self.old.fill }
-        ensures { answered result (state_of words self.new)
-            ≡ turn_leaf (rule_of keyed compared) console job (page_of leaf.now) EnterKind None
-            (state_of words self.old) }
+    fn enter(&mut self, console: u64, job: Job, leaf: PageBuf) -> Answer
+        requires there { is_there (S.words self.old.store) job.page ≡ true }
+        requires room { length (list_of leaf.entries) < 18 }
+        ensures answer { result ≡ Entered }
+        ensures state { state_of S.words self.new
+            ≡ entered (rule_of O.keyed O.compared) console job (page_of leaf) (state_of S.words self.old) }
     {
         let entry = Entry {
             key: job.task.key,
             value: job.task.value,
         };
-        let mut with_entry = *leaf;
+        let mut with_entry = leaf;
         put_in::<O>(&mut with_entry.entries, entry);
         self.save(job.page, &with_entry);
         self.finish(console, Answer::Entered)
     }
 
     // Takes the entry for a job's key, whose value was found, out of the leaf on which it stands.
-    fn strike(&mut self, console: u64, job: Job, leaf: &PageBuf, value: u64) -> Answer
-        requires { is_there (words self.old.store) job.page ≡ true }
-        ensures { answered result (state_of words self.new)
-            ≡ turn_leaf (rule_of keyed compared) console job (page_of leaf.now) StrikeKind (Some value)
-            (state_of words self.old) }
+    fn strike(&mut self, console: u64, job: Job, leaf: PageBuf, value: u64) -> Answer
+        requires { is_there (S.words self.old.store) job.page ≡ true }
+        ensures answer { result ≡ Struck value }
+        ensures state { state_of S.words self.new
+            ≡ struck (rule_of O.keyed O.compared) console job (page_of leaf) (state_of S.words self.old) }
     {
-        let mut without_entry = *leaf;
+        let mut without_entry = leaf;
         take_out::<O>(&mut without_entry.entries, job.task.key);
         self.save(job.page, &without_entry);
         self.finish(console, Answer::Struck(value))
     }
 
     // What a job does at the page on which it stands, by its kind and by the page's state, level and entries.
-    fn turn_on(&mut self, console: u64, job: Job, page: &PageBuf) -> Answer
-        requires job { job_at (state_of words self.old) console ≡ Some job }
-        requires read { page_of page.now ≡ view (state_of words self.old) job.page }
-        requires there { is_there (words self.old.store) job.page ≡ true }
-        ensures { answered result (state_of words self.new)
-            ≡ turn_state (rule_of keyed compared) console job (page_of page.now) page.now.state
-            (state_of words self.old) }
+    fn turn_on(&mut self, console: u64, job: Job, page: PageBuf) -> Answer
+        requires job { job_at (state_of S.words self.old) console ≡ Some job }
+        requires read { page_of page ≡ view (state_of S.words self.old) job.page }
+        requires there { is_there (S.words self.old.store) job.page ≡ true }
+        ensures answer { result
+            ≡ (turn_state (rule_of O.keyed O.compared) console job (page_of page) page.state
+            (state_of S.words self.old)).answer }
+        ensures state { state_of S.words self.new
+            ≡ (turn_state (rule_of O.keyed O.compared) console job (page_of page) page.state
+            (state_of S.words self.old)).after }
     {
         let key = job.task.key;
-        match (job.task.kind, page.state, page.level, held::<O>(page, key)) {
+        let past_end = is_past::<O>(&page, key);
+        let found = find::<O>(page.entries.as_slice(), key);
+        let has_room = (page.entries.len() as u64) < self.fill;
+        match (job.task.kind, page.state, page.level, found) {
+            (_, Free | Damaged, _, _) => Answer::Unreadable(job.page),
             (_, Gone, _, _) => self.go(console, page.link),
-            (_, Live, _, _) if is_past::<O>(page, key) => self.go(console, page.link),
+            (_, Live, _, _) if past_end => self.go(console, page.link),
             (Look, Live, 0, Some(value)) => self.finish(console, Answer::Found(value)),
             (Enter, Live, 0, Some(value)) => self.finish(console, Answer::Held(value)),
             (Strike, Live, 0, Some(value)) => self.strike(console, job, page, value),
-            (Enter, Live, 0, None) if has_room(page, self.fill) => self.enter(console, job, page),
+            (Enter, Live, 0, None) if has_room => self.enter(console, job, page),
             (Enter, Live, 0, None) => self.split_full(job.page, page),
-            (_, Live, 0, None) => self.finish(console, Answer::Absent),
+            (Look | Strike, Live, 0, None) => self.finish(console, Answer::Absent),
             (_, Live, _, _) => self.go(console, child_of::<O>(page.entries.as_slice(), key)),
-            (_, Free | Damaged, _, _) => Answer::Unreadable(job.page),
         }
     }
 
     // One turn of a console.
     pub(crate) fn turn_step(&mut self, console: u64) -> Answer
-        ensures { answered result (state_of words self.new)
-            ≡ turn (rule_of keyed compared) console (state_of words self.old) }
+        ensures answer { result
+            ≡ (turn (rule_of O.keyed O.compared) console (state_of S.words self.old)).answer }
+        ensures state { state_of S.words self.new
+            ≡ (turn (rule_of O.keyed O.compared) console (state_of S.words self.old)).after }
     {
         if console >= CONSOLES as u64 {
             return Answer::NoConsole;
@@ -217,6 +210,6 @@ impl<S: Store, O: Order> Index<S, O> {
         let Some(page) = self.page(job.page) else {
             return Answer::Unreadable(job.page);
         };
-        self.turn_on(console, job, &page)
+        self.turn_on(console, job, page)
     }
 }

@@ -4,7 +4,7 @@ ghost use Rattle.order.specs.Refusals.{JustWhere};
 ghost use Rattle.page.specs.Buffers.{page_of};
 ghost use Rattle.page.specs.Entries.{list_of};
 ghost use Rattle.page.specs.Pages.{bound_key};
-ghost use Rattle.model.specs.States.{answered, view, readable};
+ghost use Rattle.model.specs.States.{view, readable};
 ghost use Rattle.model.specs.Upkeep.{is_inner, is_child, wrong_child};
 ghost use Rattle.model.specs.Upkeep.{is_small, merge_pair, joined as joinedPage, gone_into, child_at, entry_out};
 ghost use Rattle.model.specs.Upkeep.{merge_at, merge};
@@ -12,21 +12,27 @@ ghost use Rattle.model.specs.Upkeep.{entry_in, following, ends_short, short_chil
 ghost use Rattle.model.specs.Turns.{with_entries};
 ghost use Rattle.index.specs.Indexes.{state_of, rule_of};
 ghost use Rattle.index.specs.Parents.{ReadParent, IsParent};
-ghost use Rattle.index.specs.Pairs.{fits_one, takes_next, children_merged, neighbour_entry};
+ghost use Rattle.index.specs.Pairs.{takes_next, children_merged, neighbour_entry};
 
 use crate::index::Index;
-use crate::turns::has_room;
 use model::Answer;
 use order::{Comparison, Key, Order};
 use page::{Entries, Entry, PageBuf, PageState};
 use store::Store;
 
-// Whether two pages of so many entries may become one: half of a full page's at most, or one without any.
-fn is_small(fill: u64, lefts: u64, rights: u64) -> bool
-    requires { (lefts ≤ 18) × (rights ≤ 18) }
-    ensures { result ≡ fits_one fill lefts rights }
+// Whether two pages may become one: half of a full page's entries at most, or one of them without any.
+fn is_small(fill: u64, left: &PageBuf, right: &PageBuf) -> bool
+    ensures { result ≡ is_small fill (page_of left.now) (page_of right.now) }
 {
+    let (lefts, rights) = (left.entries.len() as u64, right.entries.len() as u64);
     lefts + rights <= fill / 2 || lefts == 0 || rights == 0
+}
+
+// Whether a page takes its right neighbour, which is page `next`.
+fn takes_next(fill: u64, left: &PageBuf, next: u64, right: &PageBuf) -> bool
+    ensures { result ≡ takes_next fill (page_of left.now) next (page_of right.now) }
+{
+    left.link == next && is_small(fill, left, right)
 }
 
 // The left page with the right one's entries, neighbour and end.
@@ -118,8 +124,8 @@ fn gone_into(page: u64, merged: &PageBuf) -> PageBuf
 impl<S: Store, O: Order> Index<S, O> {
     // A live inner page.
     fn inner_page(&self, page: u64) -> Option<PageBuf>
-        ensures { JustWhere (is_inner self.now.fill (view (state_of words self.now) page))
-            (λ b. page_of b ≡ view (state_of words self.now) page) result }
+        ensures { JustWhere (is_inner self.now.fill (view (state_of S.words self.now) page))
+            (λ b. page_of b ≡ view (state_of S.words self.now) page) result }
     {
         let found = self.page(page)?;
         match found.state {
@@ -131,7 +137,7 @@ impl<S: Store, O: Order> Index<S, O> {
     // Whether a page is live, and one level below a parent of this level.
     fn is_child(&self, page: u64, level: u64) -> bool
         ensures { result
-            ≡ is_child self.now.fill level (view (state_of words self.now) page) }
+            ≡ is_child self.now.fill level (view (state_of S.words self.now) page) }
     {
         let Some(found) = self.page(page) else {
             return false;
@@ -144,7 +150,7 @@ impl<S: Store, O: Order> Index<S, O> {
 
     // The first entry of an inner page that leads to no child of it.
     fn wrong_child(&self, page: &PageBuf) -> Option<u64>
-        ensures { result ≡ wrong_child (state_of words self.now) page.now.level
+        ensures { result ≡ wrong_child (state_of S.words self.now) page.now.level
             (list_of page.now.entries) }
     {
         for entry in page.entries.as_slice() {
@@ -155,49 +161,50 @@ impl<S: Store, O: Order> Index<S, O> {
         None
     }
 
-    // Whether a page takes its right neighbour, which is page `right`.
-    fn takes_next(&self, left: u64, right: u64) -> bool
-        requires left { readable self.now.fill (view (state_of words self.now) left) ≡ true }
-        requires right { readable self.now.fill (view (state_of words self.now) right) ≡ true }
-        ensures { result ≡ takes_next (state_of words self.now) left right }
-    {
-        self.link_of(left) == right
-            && is_small(self.fill, self.count_of(left), self.count_of(right))
-    }
-
     // The first place whose child may take the next one's entries.
     fn merge_pair(&self, page: &PageBuf) -> Option<usize>
-        requires { wrong_child (state_of words self.now) page.now.level (list_of page.now.entries) ≡ None }
-        ensures { result ≡ merge_pair (state_of words self.now) (list_of page.now.entries) }
+        requires { wrong_child (state_of S.words self.now) page.now.level (list_of page.now.entries) ≡ None }
+        ensures { result ≡ merge_pair (state_of S.words self.now) (list_of page.now.entries) }
     {
         let entries = page.entries.as_slice();
+        if entries.is_empty() {
+            return None;
+        }
+        let mut left = self.page(entries[0].value)?;
         for i in 1..entries.len() {
-            if self.takes_next(entries[i - 1].value, entries[i].value) {
+            let right = self.page(entries[i].value)?;
+            if takes_next(self.fill, &left, entries[i].value, &right) {
                 return Some(i - 1);
             }
+            left = right;
         }
         None
     }
 
     // Makes one page of two neighbours: first the left one is written, then the right one.
     fn merge_children(&mut self, left: u64, right: u64)
-        requires left { readable self.old.fill (view (state_of words self.old) left) ≡ true }
-        requires right { readable self.old.fill (view (state_of words self.old) right) ≡ true }
-        requires small { is_small self.old.fill (view (state_of words self.old) left)
-            (view (state_of words self.old) right) ≡ true }
-        ensures state { state_of words self.new
-            ≡ children_merged left right (state_of words self.old) }
-        ensures long { length (words self.new.store) ≡ length (words self.old.store) }
+        requires left { readable self.old.fill (view (state_of S.words self.old) left) ≡ true }
+        requires right { readable self.old.fill (view (state_of S.words self.old) right) ≡ true }
+        requires small { is_small self.old.fill (view (state_of S.words self.old) left)
+            (view (state_of S.words self.old) right) ≡ true }
+        ensures state { state_of S.words self.new
+            ≡ children_merged left right (state_of S.words self.old) }
+        ensures long { length (S.words self.new.store) ≡ length (S.words self.old.store) }
     {
-        let first = self.known_page(left);
-        let second = self.known_page(right);
+        // both were read before, so neither is missing here
+        let Some(first) = self.page(left) else {
+            return;
+        };
+        let Some(second) = self.page(right) else {
+            return;
+        };
         self.save(left, &joined(&first, &second));
         self.save(right, &gone_into(left, &second));
     }
 
     // An inner page whose children can all be worked on, or why there is none.
     fn parent(&self, page: u64) -> Result<PageBuf, Answer>
-        ensures { ReadParent (state_of words self.now) page result }
+        ensures { ReadParent (state_of S.words self.now) page result }
     {
         let Some(found) = self.inner_page(page) else {
             return Err(Answer::NoInner);
@@ -210,10 +217,12 @@ impl<S: Store, O: Order> Index<S, O> {
 
     // Merges the child at a place with the next one, and then takes that one's entry out of their parent.
     fn merge_at(&mut self, page: u64, parent: &PageBuf, at: usize) -> Answer
-        requires parent { IsParent (state_of words self.old) page (page_of parent.now) }
-        requires pair { merge_pair (state_of words self.old) (list_of parent.now.entries) ≡ Some at }
-        ensures { answered result (state_of words self.new)
-            ≡ merge_at page (page_of parent.now) (Some at) (state_of words self.old) }
+        requires parent { IsParent (state_of S.words self.old) page (page_of parent.now) }
+        requires pair { merge_pair (state_of S.words self.old) (list_of parent.now.entries) ≡ Some at }
+        ensures answer { result
+            ≡ (merge_at page (page_of parent.now) (Some at) (state_of S.words self.old)).answer }
+        ensures state { state_of S.words self.new
+            ≡ (merge_at page (page_of parent.now) (Some at) (state_of S.words self.old)).after }
     {
         let left = child_at(parent, at);
         let right = child_at(parent, at + 1);
@@ -224,8 +233,9 @@ impl<S: Store, O: Order> Index<S, O> {
 
     // Makes one page of the first two neighbouring children that have room in one.
     pub(crate) fn merge_step(&mut self, page: u64) -> Answer
-        ensures { answered result (state_of words self.new)
-            ≡ merge page (state_of words self.old) }
+        ensures answer { result ≡ (merge page (state_of S.words self.old)).answer }
+        ensures state { state_of S.words self.new
+            ≡ (merge page (state_of S.words self.old)).after }
     {
         let parent = match self.parent(page) {
             Ok(parent) => parent,
@@ -239,7 +249,7 @@ impl<S: Store, O: Order> Index<S, O> {
 
     // Whether a child's end lies before what follows its entry. No end is after every key.
     fn ends_short(end: Option<Key>, next: Option<Key>) -> bool
-        ensures { result ≡ ends_short (rule_of keyed compared) end next }
+        ensures { result ≡ ends_short (rule_of O.keyed O.compared) end next }
     {
         match (end, next) {
             (None, _) => false,
@@ -250,13 +260,13 @@ impl<S: Store, O: Order> Index<S, O> {
 
     // The first place whose child ends before what follows.
     fn short_child(&self, page: &PageBuf) -> Option<usize>
-        requires { wrong_child (state_of words self.now) page.now.level (list_of page.now.entries) ≡ None }
-        ensures { result ≡ short_child (rule_of keyed compared) (state_of words self.now)
+        requires { wrong_child (state_of S.words self.now) page.now.level (list_of page.now.entries) ≡ None }
+        ensures { result ≡ short_child (rule_of O.keyed O.compared) (state_of S.words self.now)
             page.now.end (list_of page.now.entries) }
     {
         let entries = page.entries.as_slice();
         for i in 0..entries.len() {
-            let child = self.known_page(entries[i].value);
+            let child = self.page(entries[i].value)?;
             if Self::ends_short(child.end, key_from(page, i + 1)) {
                 return Some(i);
             }
@@ -266,25 +276,31 @@ impl<S: Store, O: Order> Index<S, O> {
 
     // Puts an entry of a child's end and right neighbour behind the child's own. A full page is split instead.
     fn post_at(&mut self, page: u64, parent: &PageBuf, at: usize) -> Answer
-        requires parent { IsParent (state_of words self.old) page (page_of parent.now) }
-        requires short { short_child (rule_of keyed compared) (state_of words self.old) parent.now.end
+        requires parent { IsParent (state_of S.words self.old) page (page_of parent.now) }
+        requires short { short_child (rule_of O.keyed O.compared) (state_of S.words self.old) parent.now.end
             (list_of parent.now.entries) ≡ Some at }
-        ensures { answered result (state_of words self.new)
-            ≡ post_at (rule_of keyed compared) page (page_of parent.now) (Some at)
-            (state_of words self.old) }
+        ensures answer { result ≡ (post_at (rule_of O.keyed O.compared) page (page_of parent.now) (Some at)
+            (state_of S.words self.old)).answer }
+        ensures state { state_of S.words self.new
+            ≡ (post_at (rule_of O.keyed O.compared) page (page_of parent.now) (Some at)
+            (state_of S.words self.old)).after }
     {
-        if !has_room(parent, self.fill) {
-            return self.split_full(page, parent);
+        if parent.entries.len() as u64 >= self.fill {
+            return self.split_full(page, *parent);
         }
-        let child = self.known_page(child_at(parent, at));
+        // it was read before, so it is not missing here
+        let Some(child) = self.page(child_at(parent, at)) else {
+            return Answer::Nothing;
+        };
         self.save(page, &posted(parent, at, &child));
         Answer::Posted(child.link)
     }
 
     // Gives the right neighbour of the first child that ends short an entry of its own.
     pub(crate) fn post_step(&mut self, page: u64) -> Answer
-        ensures { answered result (state_of words self.new)
-            ≡ post (rule_of keyed compared) page (state_of words self.old) }
+        ensures answer { result ≡ (post (rule_of O.keyed O.compared) page (state_of S.words self.old)).answer }
+        ensures state { state_of S.words self.new
+            ≡ (post (rule_of O.keyed O.compared) page (state_of S.words self.old)).after }
     {
         let parent = match self.parent(page) {
             Ok(parent) => parent,

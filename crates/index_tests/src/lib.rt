@@ -1,4 +1,6 @@
 //! The worked example, the edges of what is accepted and words that no index wrote, on the index itself.
+#![tactic(auto)]
+
 #[cfg(test)]
 mod edges;
 #[cfg(test)]

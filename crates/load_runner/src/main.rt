@@ -1,5 +1,7 @@
 //! Reads up to 800 call lines from standard input, runs them over 48 pages of zeros, as words in load order, and
 //! prints their answer lines. What is read beyond them is ignored.
+#![tactic(auto)]
+
 use runner::loads::run_loads;
 use runner::runs::{ANSWER_LINE, CALL_LINE};
 use std::io;

@@ -5,37 +5,31 @@ use Rattle.model.specs.declared.answers.Answer.{Answer}
 use Rattle.model.specs.declared.answers.Answer.TheVariants.{StoreTooSmall, NoFill}
 use Rattle.model.specs.Answers.{code, figure}
 use Rattle.model.specs.Entries.{KeyOrder}
-use Rattle.model.specs.States.{State, Outcome, answered, refused}
-use Rattle.model.specs.Starts.{is_fill, unmade, format, attach}
+use Rattle.model.specs.States.{State, Outcome, refused}
+use Rattle.model.specs.Starts.{is_fill, unmade, format}
 use Rattle.model.specs.Calls.{Call, step}
 use Rattle.model.specs.Histories.{Pair, Starts, formatted, after, entries_of}
 use Rattle.model.specs.Reference.{empty}
 use Rattle.model.specs.Soundness.{Sound}
 use Rattle.model.specs.Turns.{job_at}
 use Rattle.model.specs.Promises.{Laws, AsReference, turn_after, FinishedWithin}
-use Rattle.model.specs.CallPromises.{LikeReference, LikeOthers, SoundThen, EndsAlone, Called, FormatCalled, AttachCalled}
+use Rattle.model.specs.CallPromises.{LikeReference, LikeOthers, SoundThen, EndsAlone, Called, FormatCalled}
 use Rattle.model.proofs.Histories.{format_made, answers_as_reference}
 use Rattle.model.proofs.SameAnswers.{same_answers}
 use Rattle.model.proofs.Soundness.{sound_after_all}
 use Rattle.model.proofs.AloneFinishes.{alone_within_pages}
 
--- the state before a call that takes its step, what the call answers, and the state after it
-module _ (o : KeyOrder) (laws : Laws o) (c : Call) (before : State) {next : State} {a : Answer}
-    (done : answered a next ≡ step o c before) where
-  stepped : next ≡ (step o c before).after
-  stepped = ap (λ (out : Outcome). out.after) done
-
-  told : a ≡ (step o c before).answer
-  told = ap (λ (out : Outcome). out.answer) done
-
+-- the state before a call, what the call answers, and the state after it
+module _ (o : KeyOrder) (laws : Laws o) (c : Call) (before next : State)
+    (stepped : next ≡ (step o c before).after) where
   then_after : (r : Pair) (cs : List Call) → (after o cs r).state ≡ before → (after o (c ∷ cs) r).state ≡ next
   then_after r cs e = ap (λ (s : State). (step o c s).after) e ∙ sym stepped
 
-  like_reference : (number shown : ℕ) → number ≡ code a → shown ≡ figure a
+  like_reference : (a : Answer) (number shown : ℕ) → a ≡ (step o c before).answer → number ≡ code a → shown ≡ figure a
       → LikeReference o c before number shown next
-  like_reference number shown is_code is-figure r start cs e =
+  like_reference a number shown answered is_code is-figure r start cs e =
       let p = after o cs r in
-      let same : (step o c p.state).answer ≡ a = ap (λ (s : State). (step o c s).answer) e ∙ sym told in
+      let same : (step o c p.state).answer ≡ a = ap (λ (s : State). (step o c s).answer) e ∙ sym answered in
       let h = answers_as_reference o laws r start cs c in
       subst (λ (s : State). AsReference o c p number shown s) (then_after r cs e)
       (subst (λ (n : ℕ). AsReference o c p n shown (step o c p.state).after) (ap code same ∙ sym is_code)
@@ -51,14 +45,15 @@ module _ (o : KeyOrder) (laws : Laws o) (c : Call) (before : State) {next : Stat
   sound_then r start cs e =
       subst (λ (s : State). Sound o s) (then_after r cs e) (sound_after_all o laws r start (c ∷ cs))
 
-  -- all of it
-  pub called : {number shown : ℕ} → number ≡ code a → shown ≡ figure a → Called o c before number shown next
-  called {number} {shown} is_code is-figure =
+  -- all of it, for a call that takes its step
+  pub called : (a : Answer) (number shown : ℕ) → a ≡ (step o c before).answer → number ≡ code a → shown ≡ figure a
+      → Called o c before number shown next
+  called a number shown answered is_code is-figure =
       record {
-        coded = is_code ∙ ap code told;
-        figured = is-figure ∙ ap figure told;
+        coded = is_code ∙ ap code answered;
+        figured = is-figure ∙ ap figure answered;
         state = stepped;
-        reference = like_reference number shown is_code is-figure;
+        reference = like_reference a number shown answered is_code is-figure;
         others = like_others;
         sound = sound_then;
       }
@@ -100,25 +95,14 @@ format_starts fill before made20 = elim (cases_lt (length before.words) 128) [
     format_other n s long other = cond-false _ _ _ (le-ltb (length s.words) 128 long) ∙ cond-false _ _ _ other
 
 -- all of it, for a format that takes its step
-pub format_called : (fill : ℕ) (before : State) {next : State} {a : Answer} → answered a next ≡ format fill before
-    → {number shown : ℕ} → number ≡ code a → shown ≡ figure a → FormatCalled fill before number shown next
-format_called fill before done is_code is-figure =
-    let stepped = ap (λ (out : Outcome). out.after) done in
-    let coded = is_code ∙ ap (λ (out : Outcome). code out.answer) done in
+pub format_called : (fill : ℕ) (before next : State) → next ≡ (format fill before).after
+    → (a : Answer) (number shown : ℕ) → a ≡ (format fill before).answer → number ≡ code a → shown ≡ figure a
+    → FormatCalled fill before number shown next
+format_called fill before next stepped a number shown answered is_code is-figure =
     record {
-      coded = coded;
-      figured = is-figure ∙ ap (λ (out : Outcome). figure out.answer) done;
+      coded = is_code ∙ ap code answered;
+      figured = is-figure ∙ ap figure answered;
       state = stepped;
       starts = λ twenty. subst (λ (s : State). Starts (record { state = s; reference = empty })) (sym stepped)
-          (format_starts fill before (sym coded ∙ twenty));
-    }
-
--- and for an attach
-pub attach_called : (before : State) {next : State} {a : Answer} → answered a next ≡ attach before
-    → {number shown : ℕ} → number ≡ code a → shown ≡ figure a → AttachCalled before number shown next
-attach_called before done is_code is-figure =
-    record {
-      coded = is_code ∙ ap (λ (out : Outcome). code out.answer) done;
-      figured = is-figure ∙ ap (λ (out : Outcome). figure out.answer) done;
-      state = ap (λ (out : Outcome). out.after) done;
+          (format_starts fill before (sym (is_code ∙ ap code answered) ∙ twenty));
     }

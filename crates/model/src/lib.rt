@@ -1,4 +1,6 @@
 //! The steps of the index as definitions, and what is proved of every history of calls.
+#![tactic(auto)]
+
 pub mod answers;
 pub mod jobs;
 pub mod promises;

@@ -12,7 +12,7 @@ pub struct Key {
 }
 
 /// How the first of two keys stands to the second.
-#[derive(Clone, Copy)]
+#[derive(Clone, Copy, PartialEq, Eq, Debug)]
 pub enum Comparison {
     /// The first stands before the second.
     Before,

@@ -1,4 +1,6 @@
 //! Keys of two words, and the orders in which an index keeps them.
+#![tactic(auto)]
+
 mod keys;
 mod loads;
 mod orders;

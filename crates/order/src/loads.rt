@@ -1,8 +1,7 @@
 //! Load keys, a truck and a second, and their order.
 ghost use Rattle.std.specs.Prelude.{◌≡◌, true};
-ghost use Rattle.order.specs.Loads.{is_load, is_load_key, key_of_load, loads};
+ghost use Rattle.order.specs.Loads.{is_load, is_load_key, key_of_load, loads, load_laws};
 ghost use Rattle.order.specs.Refusals.{JustWhere};
-ghost use Rattle.std.proofs.Common.{rules};
 
 use crate::keys::{Comparison, Key};
 use crate::orders::Order;
@@ -81,7 +80,7 @@ impl Order for LoadOrder {
 
     ghost compared = { loads };
 
-    ghost lawful = { Prim.search rules };
+    ghost lawful = { load_laws };
 
     fn is_key(k: Key) -> bool {
         is_load(k.hi, k.lo)

@@ -1,85 +1,74 @@
 //! Place keys, their names and their order.
 use order::{Comparison, FoldedPlaceOrder, Key, Order, place_key, place_name};
+use std::test::Fail;
 
-fn is_name(bytes: &[u8]) -> bool {
-    place_key(bytes).is_some()
+#[test]
+fn lengths_of_names(rt: HostRuntime) {
+    assert!(rt; place_key(b"").is_none());
+    assert!(rt; place_key(b"A").is_some());
+    assert!(rt; place_key(b"ABCDEFGHIJKLMNOP").is_some());
+    assert!(rt; place_key(b"ABCDEFGHIJKLMNOPQ").is_none());
 }
 
 #[test]
-fn names_of_the_shortest_and_the_longest(rt: HostRuntime) {
-    assert!(rt; is_name(b"A") && is_name(b"ABCDEFGHIJKLMNOP"));
-}
-
-#[test]
-fn a_name_too_short_and_one_too_long(rt: HostRuntime) {
-    assert!(rt; !is_name(b"") && !is_name(b"ABCDEFGHIJKLMNOPQ"));
-}
-
-#[test]
-fn the_first_and_the_last_byte_that_prints(rt: HostRuntime) {
-    assert!(rt; is_name(&[65, 33]) && is_name(&[65, 126]));
-}
-
-#[test]
-fn bytes_beside_those_that_print(rt: HostRuntime) {
-    assert!(rt; !is_name(&[65, 32]) && !is_name(&[65, 127]) && !is_name(&[65, 255]));
-}
-
-#[test]
-fn a_zero_within_a_name(rt: HostRuntime) {
-    assert!(rt; !is_name(&[65, 0, 65]));
-}
-
-fn is_place(hi: u64, lo: u64) -> bool {
-    FoldedPlaceOrder::is_key(Key { hi, lo })
+fn bytes_of_names(rt: HostRuntime) {
+    assert!(rt; place_key(&[65, 32]).is_none());
+    assert!(rt; place_key(&[65, 33]).is_some());
+    assert!(rt; place_key(&[65, 126]).is_some());
+    assert!(rt; place_key(&[65, 127]).is_none());
+    assert!(rt; place_key(&[65, 255]).is_none());
+    assert!(rt; place_key(&[65, 0, 65]).is_none());
 }
 
 #[test]
 fn words_that_are_places(rt: HostRuntime) {
     assert!(rt;
-        is_place(0x4100_0000_0000_0000, 0) && !is_place(0x4100_4100_0000_0000, 0) && !is_place(0, 0)
+        FoldedPlaceOrder::is_key(Key {
+            hi: 0x4100_0000_0000_0000,
+            lo: 0,
+        })
     );
-}
-
-#[test]
-fn the_key_of_a_name(rt: HostRuntime) {
     assert!(rt;
-        matches!(
-            place_key(b"ABCDEFGHI"),
-            Some(Key {
-                hi: 0x4142_4344_4546_4748,
-                lo: 0x4900_0000_0000_0000,
-            })
-        )
+        !FoldedPlaceOrder::is_key(Key {
+            hi: 0x4100_4100_0000_0000,
+            lo: 0,
+        })
     );
-}
-
-fn comes_back(name: &[u8]) -> Option<bool> {
-    let held = place_name(place_key(name)?)?;
-    Some(held.bytes() == name)
+    assert!(rt; !FoldedPlaceOrder::is_key(Key { hi: 0, lo: 0 }));
 }
 
 #[test]
-fn a_name_comes_back_from_its_key(rt: HostRuntime) {
-    assert!(rt; matches!(comes_back(b"ABCDEFGHI"), Some(true)));
-}
-
-// How a name stands to another.
-fn stands_to(name: &[u8], other: &[u8]) -> Option<Comparison> {
-    Some(FoldedPlaceOrder::compare(place_key(name)?, place_key(other)?))
-}
-
-#[test]
-fn case_does_not_count(rt: HostRuntime) {
-    assert!(rt; matches!(stands_to(b"pit7", b"PIT7"), Some(Comparison::Same)));
+fn a_name_comes_back_from_its_key(rt: HostRuntime) -> Result<(), Fail> {
+    let key = place_key(b"ABCDEFGHI").ok_or("ABCDEFGHI is no name")?;
+    assert_eq!(rt; key.hi, 0x4142_4344_4546_4748);
+    assert_eq!(rt; key.lo, 0x4900_0000_0000_0000);
+    let Some(name) = place_name(key) else {
+        return Err(Fail::new("the key of a name is no place"));
+    };
+    assert_eq!(rt; name.bytes(), b"ABCDEFGHI");
+    Ok(())
 }
 
 #[test]
-fn small_letters_in_order(rt: HostRuntime) {
-    assert!(rt; matches!(stands_to(b"a", b"b"), Some(Comparison::Before)));
+fn case_does_not_count(rt: HostRuntime) -> Result<(), Fail> {
+    let lower = place_key(b"pit7").ok_or("pit7 is no name")?;
+    let upper = place_key(b"PIT7").ok_or("PIT7 is no name")?;
+    assert_eq!(rt; FoldedPlaceOrder::compare(lower, upper), Comparison::Same);
+    Ok(())
 }
 
 #[test]
-fn a_great_letter_before_a_small_one(rt: HostRuntime) {
-    assert!(rt; matches!(stands_to(b"A", b"b"), Some(Comparison::Before)));
+fn letters_in_order(rt: HostRuntime) -> Result<(), Fail> {
+    let small_a = place_key(b"a").ok_or("a is no name")?;
+    let great_a = place_key(b"A").ok_or("A is no name")?;
+    let small_b = place_key(b"b").ok_or("b is no name")?;
+    assert_eq!(rt;
+        FoldedPlaceOrder::compare(small_a, small_b),
+        Comparison::Before
+    );
+    assert_eq!(rt;
+        FoldedPlaceOrder::compare(great_a, small_b),
+        Comparison::Before
+    );
+    Ok(())
 }

@@ -1,5 +1,5 @@
 -- The words of a page, read and laid down entry by entry.
-use Rattle.std.proofs.Common.{◌≡◌, ℕ, zero, suc, ◌+◌, ◌-◌, ◌*◌, ◌<◌, ◌≤◌, Bool, true, cond, List, [], ◌∷◌, ◌++◌, length, get_or, take, drop, replicate, sym, refl, ap, ◌∙◌, add-one, arith}
+use Rattle.std.proofs.Common.{◌≡◌, ℕ, zero, suc, ◌+◌, ◌-◌, ◌*◌, ◌<◌, ◌≤◌, Bool, true, cond, List, [], ◌∷◌, ◌++◌, length, get_or, take, drop, set, replicate, Some, None, Option, sym, refl, ap, ◌∙◌, add-one, arith}
 use borrow.Rule.Slice.PartMut.{put_mid}
 use Rattle.std.proofs.lemmas.List.{append_assoc, length-append, length-take-le, take_more, get_or-drop, drop-drop, take_at, drop_at, drop-replicate}
 use Rattle.std.proofs.lemmas.Bool.Decides.{nat_tests}
@@ -8,7 +8,7 @@ use Rattle.store.specs.Overlay.{overlay}
 use Rattle.store.proofs.Overlays.{overlay_append, overlay_part}
 use Rattle.page.specs.declared.entries.Entry.{Entry}
 use Rattle.page.specs.Entries.{has_room}
-use Rattle.page.specs.Pages.{Page, key_from, bound_words, entries_from, entry_words, first_words, words_of}
+use Rattle.page.specs.Pages.{Page, key_from, state_word, bound_words, entries_from, entry_words, words_of}
 use Rattle.page.proofs.Layouts.{length_bound, length_entries}
 
 -- the entry in three words from a place on
@@ -80,18 +80,29 @@ zeros_left ten xs front =
     ∙ ap (λ b. ten ++ xs ++ b) behind
     ∙ append_assoc ten xs (replicate (54 - length xs) 0)
 
--- ten words laid over 64 zeros, and the entries behind them
-pub page_laid : (x : Page) (ten part w : List ℕ) → ten ≡ first_words x → part ≡ ten
-    → w ≡ overlay (part ++ replicate 54 0) 10 (entry_words x.entries) → w ≡ words_of x
-page_laid x ten part w first copied laid =
+-- the ten words before the entries, laid over others
+abbrev ten_over : List ℕ → ℕ → ℕ → ℕ → ℕ → List ℕ → List ℕ → List ℕ
+ten_over z t l n k p q = put_mid 7 3 (put_mid 4 3 (set (set (set (set z 0 t) 1 l) 2 n) 3 k) p) q
+
+-- and over zeros
+ten_words : (t l n k : ℕ) (s e : Option Key) → ten_over (replicate 64 0) t l n k (bound_words s) (bound_words e)
+    ≡ ((t ∷ l ∷ n ∷ k ∷ []) ++ (bound_words s ++ bound_words e)) ++ replicate 54 0
+ten_words t l n k None None = refl
+ten_words t l n k None (Some b) = refl
+ten_words t l n k (Some a) None = refl
+ten_words t l n k (Some a) (Some b) = refl
+
+-- the words of a page, laid down part by part
+pub page_laid : (x : Page) (z : List ℕ) (t n : ℕ) (p q w : List ℕ) → z ≡ replicate 64 0
+    → t ≡ state_word x.state → n ≡ length x.entries → p ≡ bound_words x.start → q ≡ bound_words x.end
+    → w ≡ overlay (ten_over z t x.level n x.link p q) 10 (entry_words x.entries) → w ≡ words_of x
+page_laid x z t n p q w blank state count start end laid =
     let s = bound_words x.start in
     let e = bound_words x.end in
     let es = entry_words x.entries in
-    let long : length (first_words x) ≡ 10 =
-    omega (arith, length-append s e, length_bound x.start, length_bound x.end) in
+    let ten = (state_word x.state ∷ x.level ∷ length x.entries ∷ x.link ∷ []) ++ (s ++ e) in
+    let long : length ten ≡ 10 = omega (arith, length-append s e, length_bound x.start, length_bound x.end) in
+    let before = ten_words (state_word x.state) x.level (length x.entries) x.link x.start x.end in
     let zeros : 54 - length es ≡ 54 - 3 * length x.entries = omega (arith, length_entries x.entries) in
-    laid
-    ∙ ap (λ t. overlay (t ++ replicate 54 0) 10 es) (copied ∙ first)
-    ∙ zeros_left (first_words x) es long
-    ∙ ap (λ m. first_words x ++ (es ++ replicate m 0)) zeros
-    ∙ simp append_assoc
+    let put : w ≡ ten ++ (es ++ replicate (54 - length es) 0) = laid ∙ (cc) ∙ zeros_left ten es long in
+    put ∙ ap (λ m. ten ++ (es ++ replicate m 0)) zeros ∙ simp append_assoc

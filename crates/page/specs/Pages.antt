@@ -78,12 +78,6 @@ page_from ws =
           (start_first (bound_key (bound_from ws 4)) (entries_from (slice_index ws 2) (drop 10 ws)));
     }
 
--- the ten words before a page's entries
-abbrev pub first_words : Page → List ℕ
-first_words x =
-    (state_word x.state ∷ x.level ∷ length x.entries ∷ x.link ∷ [])
-    ++ (bound_words x.start ++ bound_words x.end)
-
 -- the 64 words of a page, those that are not used 0
 abbrev pub words_of : Page → List ℕ
 words_of x =

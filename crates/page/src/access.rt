@@ -10,7 +10,7 @@ use store::Store;
 
 /// The word at a place, and 0 at and beyond the length.
 pub fn read_word<S: Store>(store: &S, at: u64) -> u64
-    ensures { result ≡ slice_index (words store.now) at }
+    ensures { result ≡ slice_index (S.words store.now) at }
 {
     match store.read(at) {
         Some(word) => word,
@@ -20,21 +20,21 @@ pub fn read_word<S: Store>(store: &S, at: u64) -> u64
 
 /// The first free page, or 0: word 3 of page 0.
 pub fn read_free<S: Store>(store: &S) -> u64
-    ensures { result ≡ slice_index (words store.now) 3 }
+    ensures { result ≡ slice_index (S.words store.now) 3 }
 {
     read_word(store, 3)
 }
 
 /// The root page: word 4 of page 0.
 pub fn read_root<S: Store>(store: &S) -> u64
-    ensures { result ≡ slice_index (words store.now) 4 }
+    ensures { result ≡ slice_index (S.words store.now) 4 }
 {
     read_word(store, 4)
 }
 
 // The place of a page's first word, or `None` where the page is not there.
 fn place_of<S: Store>(store: &S, page: u64) -> Option<u64>
-    ensures { JustWhere (is_there (words store.now) page)
+    ensures { JustWhere (is_there (S.words store.now) page)
         (λ at. (at ≡ 64 * page) × (at + 64 < 2 ^ 64)) result }
 {
     // by division, since 64 times the number of a page that is not there may be no word
@@ -47,15 +47,13 @@ fn place_of<S: Store>(store: &S, page: u64) -> Option<u64>
 
 // The words of a page, or `None` where it is not there.
 fn load<S: Store>(store: &S, page: u64) -> Option<[u64; PAGE_WORDS]>
-    ensures { JustWhere (is_there (words store.now) page)
-        (λ ws. ws ≡ page_run (words store.now) page) result }
+    ensures { JustWhere (is_there (S.words store.now) page)
+        (λ ws. ws ≡ page_run (S.words store.now) page) result }
 {
-    let Some(place) = place_of(store, page) else {
-        return None;
-    };
+    let place = place_of(store, page)?;
     let mut loaded = [0; PAGE_WORDS];
-    for i in 0..PAGE_WORDS {
-        loaded[i] = store.read(place + i as u64)?;
+    for (i, word) in loaded.iter_mut().enumerate() {
+        *word = store.read(place + i as u64)?;
     }
     Some(loaded)
 }
@@ -63,23 +61,23 @@ fn load<S: Store>(store: &S, page: u64) -> Option<[u64; PAGE_WORDS]>
 // Puts 64 words in the place of a page's, and says whether it is there. If it is not, nothing changes.
 fn save<S: Store>(store: &mut S, page: u64, from: &[u64]) -> bool
     requires { length from.now ≡ 64 }
-    ensures said { result ≡ is_there (words store.old) page }
-    ensures saved { words store.new
-        ≡ put_if_there (words store.old) page from.now }
+    ensures said { result ≡ is_there (S.words store.old) page }
+    ensures saved { S.words store.new
+        ≡ put_if_there (S.words store.old) page from.now }
 {
     let Some(place) = place_of(store, page) else {
         return false;
     };
-    for i in 0..PAGE_WORDS {
-        store.write(place + i as u64, from[i]);
+    for (i, word) in from.iter().enumerate() {
+        store.write(place + i as u64, *word);
     }
     true
 }
 
 /// The page, or `None` where it is not there or has more entries than there is room for.
 pub fn read_page<S: Store>(store: &S, page: u64) -> Option<PageBuf>
-    ensures { JustWhere (can_read (words store.now) page)
-        (λ b. page_of b ≡ page_at (words store.now) page) result }
+    ensures { JustWhere (can_read (S.words store.now) page)
+        (λ b. page_of b ≡ page_at (S.words store.now) page) result }
 {
     let loaded = load(store, page)?;
     page_from(&loaded)
@@ -87,18 +85,18 @@ pub fn read_page<S: Store>(store: &S, page: u64) -> Option<PageBuf>
 
 /// Writes a page, and says whether it is there. If it is not, nothing changes.
 pub fn write_page<S: Store>(store: &mut S, page: u64, buf: &PageBuf) -> bool
-    ensures said { result ≡ is_there (words store.old) page }
-    ensures written { words store.new
-        ≡ put_if_there (words store.old) page (words_of (page_of buf.now)) }
+    ensures said { result ≡ is_there (S.words store.old) page }
+    ensures written { S.words store.new
+        ≡ put_if_there (S.words store.old) page (words_of (page_of buf.now)) }
 {
     save(store, page, &page_words(buf))
 }
 
 /// Writes page 0, and says whether it is there. If it is not, nothing changes.
 pub fn write_head<S: Store>(store: &mut S, head: HeadBuf) -> bool
-    ensures said { result ≡ is_there (words store.old) 0 }
-    ensures written { words store.new
-        ≡ put_if_there (words store.old) 0 (head_words (head_of head)) }
+    ensures said { result ≡ is_there (S.words store.old) 0 }
+    ensures written { S.words store.new
+        ≡ put_if_there (S.words store.old) 0 (head_words (head_of head)) }
 {
     save(store, 0, &head_words(head))
 }

@@ -3,13 +3,13 @@
 //! Word 0 is the state, word 1 the level, word 2 the number of entries and word 3 the link. Words 4 to 6 are the start
 //! and words 7 to 9 the end, each as a word that is 0 for none and the two words of its key. From word 10 on stand the
 //! entries, each as the two words of its key and its value. The words behind the last entry are 0.
-ghost use Rattle.std.specs.Prelude.{◌≡◌, ◌+◌, ◌*◌, ◌<◌, ◌≤◌, drop, slice_index};
+ghost use Rattle.std.specs.Prelude.{◌≡◌, ◌+◌, ◌*◌, ◌<◌, ◌≤◌, drop, replicate, slice_index};
 ghost use Rattle.order.specs.Refusals.{JustWhere};
 ghost use Rattle.store.specs.Overlay.{overlay};
 ghost use Rattle.page.specs.Buffers.{page_of, head_of, count_fits};
 ghost use Rattle.page.specs.Entries.{list_of};
-ghost use Rattle.page.specs.Pages.{key_from, bound_from, bound_words, entries_from, entry_words};
-ghost use Rattle.page.specs.Pages.{page_from, first_words, words_of, head_words};
+ghost use Rattle.page.specs.Pages.{key_from, bound_from, bound_key, bound_words, entries_from, entry_words};
+ghost use Rattle.page.specs.Pages.{page_from, words_of, head_words};
 
 use crate::entries::{Entries, Entry, MOST_ENTRIES};
 use crate::pages::{HeadBuf, PageBuf, PageState};
@@ -60,6 +60,16 @@ fn entry_place(before: usize) -> usize
     FIRST_ENTRY + ENTRY_WORDS * before
 }
 
+// The key of a start, zeros for none.
+fn bound_key(bound: Option<Key>) -> Key
+    ensures { result ≡ bound_key bound }
+{
+    match bound {
+        None => Key { hi: 0, lo: 0 },
+        Some(key) => key,
+    }
+}
+
 // As many entries as word 2 says, or `None` where a page has no room for so many.
 fn entries_from(words: &[u64; PAGE_WORDS]) -> Option<Entries>
     ensures { JustWhere (count_fits words.now)
@@ -86,11 +96,9 @@ pub fn page_from(words: &[u64; PAGE_WORDS]) -> Option<PageBuf>
     let start = bound_from(words, START);
     let end = bound_from(words, END);
     let level = words[1];
-    let Some(mut entries) = entries_from(words) else {
-        return None;
-    };
+    let mut entries = entries_from(words)?;
     if level > 0 {
-        entries.set_first_key(start.unwrap_or(Key { hi: 0, lo: 0 }));
+        entries.set_first_key(bound_key(start));
     }
     Some(PageBuf {
         state: PageState::from_word(words[0]),
@@ -112,26 +120,6 @@ fn bound_words(bound: Option<Key>) -> [u64; 3]
     }
 }
 
-// The words before the entries.
-fn first_words(page: &PageBuf) -> [u64; FIRST_ENTRY]
-    ensures { result ≡ first_words (page_of page.now) }
-{
-    let [has_start, start_hi, start_lo] = bound_words(page.start);
-    let [has_end, end_hi, end_lo] = bound_words(page.end);
-    [
-        page.state.word(),
-        page.level,
-        page.entries.len() as u64,
-        page.link,
-        has_start,
-        start_hi,
-        start_lo,
-        has_end,
-        end_hi,
-        end_lo,
-    ]
-}
-
 // Lays the entries down from word 10 on.
 fn put_entries(words: &mut [u64; PAGE_WORDS], entries: &Entries)
     ensures { words.new
@@ -143,13 +131,26 @@ fn put_entries(words: &mut [u64; PAGE_WORDS], entries: &Entries)
     }
 }
 
+// Lays the parts of a page down in words that are all 0.
+fn lay_out(words: &mut [u64; PAGE_WORDS], page: &PageBuf)
+    requires { words.old ≡ replicate 64 0 }
+    ensures { words.new ≡ words_of (page_of page.now) }
+{
+    words[0] = page.state.word();
+    words[1] = page.level;
+    words[2] = page.entries.len() as u64;
+    words[3] = page.link;
+    words[START..END].copy_from_slice(&bound_words(page.start));
+    words[END..FIRST_ENTRY].copy_from_slice(&bound_words(page.end));
+    put_entries(words, &page.entries);
+}
+
 /// The 64 words of a page.
 pub fn page_words(page: &PageBuf) -> [u64; PAGE_WORDS]
     ensures { result ≡ words_of (page_of page.now) }
 {
     let mut words = [0; PAGE_WORDS];
-    words[0..FIRST_ENTRY].copy_from_slice(&first_words(page));
-    put_entries(&mut words, &page.entries);
+    lay_out(&mut words, page);
     words
 }
 

@@ -1,4 +1,6 @@
 //! Pages of 64 words: their parts, their layout, and how they are read off a store and written to it.
+#![tactic(auto)]
+
 pub mod access;
 pub mod entries;
 pub mod layout;

@@ -1,6 +1,7 @@
 //! Pages as words, and back.
 use order::Key;
 use page::{Entries, Entry, HeadBuf, PageBuf, PageState, head_words, page_from, page_words};
+use std::test::Fail;
 
 fn page(level: u64) -> PageBuf {
     let mut entries = Entries::new();
@@ -22,48 +23,41 @@ fn page(level: u64) -> PageBuf {
     }
 }
 
-// Words, and zeros behind them.
-fn padded(first: [u64; 16]) -> [u64; 64] {
-    let mut words = [0; 64];
-    words[0..16].copy_from_slice(&first);
-    words
-}
-
 #[test]
 fn words_of_a_leaf(rt: HostRuntime) {
-    let words = padded([1, 0, 2, 4, 1, 5, 5, 0, 0, 0, 5, 6, 7, 8, 9, 10]);
-    assert_eq!(rt; page_words(&page(0)), words);
-}
-
-// The words of a page that is read back from its words, or zeros where it is not.
-fn back(level: u64) -> [u64; 64] {
-    match page_from(&page_words(&page(level))) {
-        Some(page) => page_words(&page),
-        None => [0; 64],
-    }
+    let words = page_words(&page(0));
+    assert_eq!(rt; &words[0..10], &[1, 0, 2, 4, 1, 5, 5, 0, 0, 0]);
+    assert_eq!(rt; &words[10..16], &[5, 6, 7, 8, 9, 10]);
+    assert_eq!(rt; &words[16..64], &[0; 48]);
 }
 
 #[test]
-fn a_leaf_is_read_back(rt: HostRuntime) {
-    assert_eq!(rt; back(0), page_words(&page(0)));
+fn a_leaf_is_read_back(rt: HostRuntime) -> Result<(), Fail> {
+    let Some(back) = page_from(&page_words(&page(0))) else {
+        return Err(Fail::new("a page is not read back"));
+    };
+    assert_eq!(rt; page_words(&back), page_words(&page(0)));
+    Ok(())
 }
 
 #[test]
-fn the_first_key_of_an_inner_page_is_its_start(rt: HostRuntime) {
-    let words = padded([1, 1, 2, 4, 1, 5, 5, 0, 0, 0, 5, 5, 7, 8, 9, 10]);
-    assert_eq!(rt; back(1), words);
-}
-
-// A leaf, with another count of its entries, read back.
-fn with_count(count: u64) -> Option<PageBuf> {
-    let mut words = page_words(&page(0));
-    words[2] = count;
-    page_from(&words)
+fn the_first_key_of_an_inner_page_is_its_start(rt: HostRuntime) -> Result<(), Fail> {
+    let Some(inner) = page_from(&page_words(&page(1))) else {
+        return Err(Fail::new("a page is not read back"));
+    };
+    let first = inner.entries.get(0).ok_or("an entry is lost")?;
+    assert_eq!(rt; first.key.lo, 5);
+    assert_eq!(rt; first.value, 7);
+    Ok(())
 }
 
 #[test]
 fn more_entries_than_there_is_room_for(rt: HostRuntime) {
-    assert!(rt; with_count(18).is_some() & with_count(19).is_none());
+    let mut words = page_words(&page(0));
+    words[2] = 18;
+    assert!(rt; page_from(&words).is_some());
+    words[2] = 19;
+    assert!(rt; page_from(&words).is_none());
 }
 
 #[test]
@@ -74,8 +68,5 @@ fn words_of_page_0(rt: HostRuntime) {
         free: 2,
         root: 1,
     });
-    assert_eq!(rt;
-        words,
-        padded([3, 9, 18, 2, 1, 0, 0, 0, 0, 0, 0, 0, 0, 0, 0, 0])
-    );
+    assert_eq!(rt; &words[0..6], &[3, 9, 18, 2, 1, 0]);
 }

@@ -1,6 +1,8 @@
 //! Examples of pages and their entries, at the edges of what a page has room for.
 //!
 //! They stand in a crate of their own, so that a check of `page` need not wait for them.
+#![tactic(auto)]
+
 #[cfg(test)]
 mod entries;
 #[cfg(test)]

@@ -17,28 +17,17 @@ fn empty(link: u64) -> PageBuf {
     }
 }
 
-// Whether a page is written to a store of zeros, and leaves this word at a place.
-fn writes(page: u64, at: u64, word: u64) -> [bool; 2] {
+#[test]
+fn pages_that_are_there(rt: HostRuntime) {
     let mut words = [0; 160];
     let mut store = WordStore::new(&mut words);
-    let written = write_page(&mut store, page, &empty(8));
-    [written, read_word(&store, at) == word]
-}
-
-fn reads(page: u64) -> bool {
-    let mut words = [0; 160];
-    read_page(&WordStore::new(&mut words), page).is_some()
-}
-
-#[test]
-fn pages_are_written_where_they_are_there(rt: HostRuntime) {
-    assert_eq!(rt; writes(1, 67, 8), [true, true]);
-    assert_eq!(rt; writes(2, 131, 0), [false, true]);
-}
-
-#[test]
-fn pages_are_read_where_they_are_there(rt: HostRuntime) {
-    assert!(rt; reads(1) & !reads(2) & !reads(u64::MAX));
+    assert!(rt; write_page(&mut store, 1, &empty(8)));
+    assert_eq!(rt; read_word(&store, 67), 8);
+    assert!(rt; !write_page(&mut store, 2, &empty(9)));
+    assert_eq!(rt; read_word(&store, 131), 0);
+    assert!(rt; read_page(&store, 1).is_some());
+    assert!(rt; read_page(&store, 2).is_none());
+    assert!(rt; read_page(&store, u64::MAX).is_none());
 }
 
 #[test]
@@ -51,7 +40,8 @@ fn page_0_is_read_back(rt: HostRuntime) {
         free: 1,
         root: 0,
     };
-    let written = write_head(&mut store, head);
-    let back = (read_free(&store) == 1) & (read_root(&store) == 0);
-    assert!(rt; written & back & (store.length() == 160));
+    assert!(rt; write_head(&mut store, head));
+    assert_eq!(rt; read_free(&store), 1);
+    assert_eq!(rt; read_root(&store), 0);
+    assert_eq!(rt; store.length(), 160);
 }

@@ -1,5 +1,7 @@
 //! Reads up to 800 call lines from standard input, runs them over 48 pages of zeros, as text in the order of place names, and
 //! prints their answer lines. What is read beyond them is ignored.
+#![tactic(auto)]
+
 use runner::places::run_places;
 use runner::runs::{ANSWER_LINE, CALL_LINE};
 use std::io;

@@ -1,8 +1,8 @@
 -- Every run from before its index is made is a history, with the reference beside it.
-use Rattle.std.proofs.Common.{◌≡◌, ℕ, zero, suc, true, false, eqb, ltb, ◌⊎◌, List, [], ◌∷◌, length, Some, None, Option, sym, refl, ap, ◌∙◌, subst, inl, inr}
+use Rattle.std.proofs.Common.{◌≡◌, ℕ, zero, suc, ◌<◌, Bool, true, false, cond, eqb, ltb, ◌⊎◌, List, [], ◌∷◌, length, Some, None, Option, sym, refl, ap, ◌∙◌, subst, inl, inr}
 use Rattle.std.proofs.lemmas.Bool.{cases_Bool, cond-true, cond-false, cond_both, true≢false, both_ways, eqb-true}
 use Rattle.model.specs.Answers.{code}
-use Rattle.model.specs.CallPromises.{Called}
+use Rattle.model.specs.CallPromises.{Called, FormatCalled}
 use Rattle.model.specs.Calls.{Call, step}
 use Rattle.model.specs.Entries.{KeyOrder}
 use Rattle.model.specs.Histories.{Pair, Starts, both, after}
@@ -13,9 +13,9 @@ use Rattle.model.specs.States.{State, Outcome}
 use Rattle.model.proofs.CallPromises.{called, format_called}
 use Rattle.runner.specs.declared.lines.Request.{Request}
 use Rattle.runner.specs.Lines.{request_of}
-use Rattle.runner.specs.Runs.{Asked, makes, calls, asked_by, is_made, is_due, step_of, Reply, done, reply_to}
+use Rattle.runner.specs.Runs.{Asked, makes, calls, asked_by, is_made, is_due, step_of, Reply, done, unrun, reply_to}
 use Rattle.runner.specs.Runs.{line_step, line_at, state_at, reply_at}
-use Rattle.runner.specs.RunPromises.{both_run, both_after, pair_at, Kept, LineKept, RunKept}
+use Rattle.runner.specs.RunPromises.{both_run, both_after, pair_at, CallKept, Kept, LineKept, RunKept}
 
 -- a format that does not answer 20 changes nothing
 format_refused : (fill : ℕ) (s : State) → eqb (code (format fill s).answer) 20 ≡ false → (format fill s).after ≡ s
@@ -72,7 +72,7 @@ module _ (o : KeyOrder) (laws : Laws o) (start : State) (unmade : is_made start 
       cond_both (eqb (code (format fill s).answer) 20) _ _ Led
       (λ twenty. inr (record {
         first = record { state = (format fill s).after; reference = empty };
-        starts = (format_called fill s refl refl refl).starts (eqb-true _ 20 twenty);
+        starts = (format_called fill s _ refl _ _ _ refl refl refl).starts (eqb-true _ 20 twenty);
         history = [];
         leads = refl;
       }))
@@ -94,12 +94,12 @@ module _ (o : KeyOrder) (laws : Laws o) (start : State) (unmade : is_made start 
 
   -- a request that is run has its promises
   run_kept : (a : Asked) (p : Pair) → is_due a p.state ≡ true → Led p → Kept o a p (done (step_of o a p.state))
-  run_kept (makes fill) p due led = format_called fill p.state refl refl refl
+  run_kept (makes fill) p due led = format_called fill p.state _ refl _ _ _ refl refl refl
   run_kept (calls c) p due (inl e) = absurd (none_due p due e)
   run_kept (calls c) p due (inr h) =
       let x = done (step o c p.state) in
       let all : Called o c p.state x.code x.figure x.next =
-      called o laws c p.state refl refl refl in
+      called o laws c p.state _ refl _ _ _ refl refl refl in
       let here = ap (λ (r : Pair). r.state) h.leads in
       record {
         called = all;

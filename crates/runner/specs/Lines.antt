@@ -6,12 +6,13 @@ use Rattle.runner.specs.declared.lines.CallLine.{CallLine}
 use Rattle.runner.specs.declared.lines.Request.{Request}
 use Rattle.runner.specs.declared.lines.Request.TheVariants.{Format, Begin, Turn, Withdraw, Post, Merge, Raise, Sweep}
 
--- the columns of a call line: the call's number, and then its argument, the kind, the key's two words and the value
+-- the columns of a call line: the call, its console, page or fill, the kind, two key words and the value
+abbrev pub call_widths : List ℕ
+call_widths = 2 ∷ 5 ∷ 2 ∷ 21 ∷ 21 ∷ 21 ∷ []
+
+-- those behind the two of the call's number
 abbrev pub argument_widths : List ℕ
 argument_widths = 5 ∷ 2 ∷ 21 ∷ 21 ∷ 21 ∷ []
-
-abbrev pub call_widths : List ℕ
-call_widths = 2 ∷ argument_widths
 
 -- the columns of an answer line: the code and the figure
 abbrev pub answer_widths : List ℕ

@@ -24,7 +24,7 @@ const NOT_RUN: u64 = 13;
 
 // Whether a request may be run now: a format makes the index, once, and the calls come after it.
 fn is_due<S: Store, O: Order>(index: &Index<S, O>, request: Request) -> bool
-    ensures { result ≡ is_due (asked_by request) (state_of words index.now) }
+    ensures { result ≡ is_due (asked_by request) (state_of S.words index.now) }
 {
     match request {
         Request::Format { .. } => !index.is_made(),
@@ -34,8 +34,8 @@ fn is_due<S: Store, O: Order>(index: &Index<S, O>, request: Request) -> bool
 
 // Runs a request.
 fn perform<S: Store, O: Order>(index: &mut Index<S, O>, request: Request) -> (u64, u64)
-    ensures { Performed (rule_of keyed compared) (asked_by request) (state_of words index.old)
-        result.0 result.1 (state_of words index.new) }
+    ensures { Performed (rule_of O.keyed O.compared) (asked_by request) (state_of S.words index.old)
+        result.0 result.1 (state_of S.words index.new) }
 {
     match request {
         Request::Format { fill } => index.format(fill),
@@ -56,12 +56,12 @@ fn perform<S: Store, O: Order>(index: &mut Index<S, O>, request: Request) -> (u6
 
 // Answers one line, of this number: 13 with the number where it is not run, and then nothing changes.
 fn answer_line<S: Store, O: Order>(index: &mut Index<S, O>, line: &[u8], number: u64) -> (u64, u64)
-    ensures code { result.0 ≡ (line_step (rule_of keyed compared) line.now number
-        (state_of words index.old)).code }
-    ensures figure { result.1 ≡ (line_step (rule_of keyed compared) line.now number
-        (state_of words index.old)).figure }
-    ensures state { state_of words index.new
-        ≡ (line_step (rule_of keyed compared) line.now number (state_of words index.old)).next }
+    ensures code { result.0 ≡ (line_step (rule_of O.keyed O.compared) line.now number
+        (state_of S.words index.old)).code }
+    ensures figure { result.1 ≡ (line_step (rule_of O.keyed O.compared) line.now number
+        (state_of S.words index.old)).figure }
+    ensures state { state_of S.words index.new
+        ≡ (line_step (rule_of O.keyed O.compared) line.now number (state_of S.words index.old)).next }
 {
     match read_request(line) {
         Some(request) if is_due(index, request) => perform(index, request),
@@ -87,11 +87,11 @@ fn put_answer(output: &mut [u8], i: usize, code: u64, figure: u64)
 pub fn run<S: Store, O: Order>(index: &mut Index<S, O>, input: &[u8], output: &mut [u8]) -> usize
     ensures lines { result ≡ min (length input.now / 73) (length output.old / 25) }
     ensures answers { output.new ≡ overlay output.old 0
-        (answers_to (rule_of keyed compared) input.now (state_of words index.old) result) }
-    ensures state { state_of words index.new
-        ≡ state_at (rule_of keyed compared) input.now (state_of words index.old) result }
-    ensures promises { is_made (state_of words index.old) ≡ false →
-        RunKept (rule_of keyed compared) input.now (state_of words index.old) }
+        (answers_to (rule_of O.keyed O.compared) input.now (state_of S.words index.old) result) }
+    ensures state { state_of S.words index.new
+        ≡ state_at (rule_of O.keyed O.compared) input.now (state_of S.words index.old) result }
+    ensures promises { is_made (state_of S.words index.old) ≡ false →
+        RunKept (rule_of O.keyed O.compared) input.now (state_of S.words index.old) }
 {
     let lines = (input.len() / CALL_LINE).min(output.len() / ANSWER_LINE);
     for i in 0..lines {
@@ -106,8 +106,8 @@ pub fn run<S: Store, O: Order>(index: &mut Index<S, O>, input: &[u8], output: &m
 pub fn run_new<S: Store + Drop, O: Order>(store: S, input: &[u8], output: &mut [u8]) -> usize
     ensures lines { result ≡ min (length input.now / 73) (length output.old / 25) }
     ensures answers { output.new ≡ overlay output.old 0
-        (answers_to (rule_of keyed compared) input.now (unmade (words store)) result) }
-    ensures promises { RunKept (rule_of keyed compared) input.now (unmade (words store)) }
+        (answers_to (rule_of O.keyed O.compared) input.now (unmade (S.words store)) result) }
+    ensures promises { RunKept (rule_of O.keyed O.compared) input.now (unmade (S.words store)) }
 {
     let mut index: Index<S, O> = Index::new(store);
     let lines = run(&mut index, input, output);

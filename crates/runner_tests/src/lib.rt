@@ -1,3 +1,5 @@
 //! Lines and runs at the edges of what is taken.
+#![tactic(auto)]
+
 #[cfg(test)]
 mod runs;

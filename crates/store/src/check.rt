@@ -9,7 +9,7 @@ use std::fmt;
 pub const MOST_BYTES: usize = 5_505_024;
 
 /// What a text is found to be.
-#[derive(Clone, Copy)]
+#[derive(Clone, Copy, PartialEq, Eq, Debug)]
 pub enum Finding {
     /// It is not too long, and was tested.
     Tested(TextTest),

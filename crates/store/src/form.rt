@@ -22,7 +22,7 @@ pub(crate) fn read_word(line: &[u8]) -> Option<u64>
 }
 
 /// What the test of a text finds.
-#[derive(Clone, Copy)]
+#[derive(Clone, Copy, PartialEq, Eq, Debug)]
 pub enum TextTest {
     /// Each line is that of a word, and there are so many.
     Words(u64),

@@ -1,4 +1,6 @@
 //! Stores of 64-bit words: over a caller's words, and over a caller's text of decimal lines.
+#![tactic(auto)]
+
 ghost use Rattle.std.specs.Prelude.{◌≡◌, ℕ, List, length, nat_lt, slice_set};
 ghost use Rattle.store.specs.Words.{word_at};
 

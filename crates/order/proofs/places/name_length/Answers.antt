@@ -4,7 +4,7 @@ use Rattle.order.proofs.places.name_length.Goals as goal
 
 pub returns : goal.returns
 returns c =
-    let size = ap length c.without-padding.ensures in
+    let size = ap length c.without_padding.ensures in
     let fits = unpadded_no_longer c.args.text.now in
     let front = unpadded_is_front c.args.text.now in
     record { within = omega arith; front = cc }

@@ -4,10 +4,10 @@ use Rattle.order.proofs.Names.{names_and_keys}
 use Rattle.order.proofs.Padding.{key_padded}
 use Rattle.order.proofs.places.place_key.Goals as goal
 
-pub returns-then-is-name : goal.returns-then-is-name
-returns-then-is-name c =
+pub returns-then-is_name : goal.returns-then-is_name
+returns-then-is_name c =
     let same = key_padded c.args.name.now (16 - length c.args.name.now) in
     record { key = grind (arith, nat_tests); inverse = names_and_keys }
 
-pub returns-else-is-name : goal.returns-else-is-name
-returns-else-is-name c = record { key = grind (arith, nat_tests); inverse = names_and_keys }
+pub returns-else-is_name : goal.returns-else-is_name
+returns-else-is_name c = record { key = grind (arith, nat_tests); inverse = names_and_keys }

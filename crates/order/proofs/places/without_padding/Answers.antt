@@ -9,12 +9,12 @@ loop-text-preserved c =
     let front = unpadded_front c.loop-text.text.now in
     grind (arith, nat_tests)
 
-pub returns-in-default : goal.returns-in-default
-returns-in-default c =
+pub returns-in_default : goal.returns-in_default
+returns-in_default c =
     let none = nil_from_length c.loop-text.text.now in
     grind (arith, nat_tests)
 
-pub returns-in-default·2 : goal.returns-in-default·2
-returns-in-default·2 c =
+pub returns-in_default-2 : goal.returns-in_default-2
+returns-in_default-2 c =
     let whole = unpadded_whole c.loop-text.text.now in
     grind (arith, nat_tests)

@@ -6,6 +6,6 @@ use Rattle.page.proofs.layout.entries_from.Goals as goal
 
 pub loop-i-preserved : goal.loop-i-preserved
 loop-i-preserved c =
-    entry_read c.args.words.now c.loop-i.i c.entry-place-at.result (list_of c.loop-i.entries)
-    (list_of c.push.new.self) c.key-from.result c.push.result (sym c.entry-place-at.ensures)
-    (omega arith) c.loop-i.invariant c.key-from.ensures c.push.ensures.said c.push.ensures.pushed
+    entry_read c.args.words.now c.loop-i.i c.entry_place-at.result (list_of c.loop-i.entries)
+    (list_of c.push.new.self) c.key_from.result c.push.result (sym c.entry_place-at.ensures)
+    (omega arith) c.loop-i.invariant c.key_from.ensures c.push.ensures.said c.push.ensures.pushed

@@ -18,15 +18,15 @@ loop-i-preserved c =
     let i = c.loop-i.i in
     let few = c.args.entries.now.few in
     let long = length_list c.args.entries.now in
-    let same = ap length c.as-slice-entry-items.ensures in
-    let here = sym c.entry-place-at.ensures in
-    let read = ap (λ xs. entry_words (get_or xs i nothing ∷ [])) c.as-slice-entry-items.ensures in
-    entry_laid c.args.words.now c.loop-i.words c.copy-from-slice.new.self es i _ _ nothing
+    let same = ap length c.as_slice-entry-items.ensures in
+    let here = sym c.entry_place-at.ensures in
+    let read = ap (λ xs. entry_words (get_or xs i nothing ∷ [])) c.as_slice-entry-items.ensures in
+    entry_laid c.args.words.now c.loop-i.words c.copy_from_slice.new.self es i _ _ nothing
     c.told-words (omega arith) (omega arith) c.loop-i.invariant here (omega arith)
-    (c.copy-from-slice.ensures.after ∙ read)
+    (c.copy_from_slice.ensures.after ∙ read)
 
 pub returns : goal.returns
 returns c =
     let es = list_of c.args.entries.now in
-    let end : length es ≤ c.loop-i.i = omega (arith, ap length c.as-slice-entry-items.ensures) in
+    let end : length es ≤ c.loop-i.i = omega (arith, ap length c.as_slice-entry-items.ensures) in
     c.loop-i.invariant ∙ ap (λ xs. overlay c.args.words.now 10 (entry_words xs)) (take_all c.loop-i.i es end)

@@ -3,8 +3,8 @@ use Rattle.std.proofs.lemmas.Fmt.{decimal_digit}
 use Rattle.store.proofs.Numbers.{twenty_digits, length_decimal_step}
 use Rattle.store.proofs.columns.digit_count.Goals as goal
 
-pub overflow-add-count : goal.overflow-add-count
-overflow-add-count c =
+pub overflow_add-count : goal.overflow_add-count
+overflow_add-count c =
     let few = twenty_digits c.args.number (omega arith) in
     omega arith
 

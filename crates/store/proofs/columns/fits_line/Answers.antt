@@ -14,8 +14,8 @@ returns-then-left-width c =
     (omega arith) (omega arith) (λ long digits. omega arith) in
     record { said = sym (c.loop-i.invariant.1 ∙ none); one_line = one_line }
 
-pub returns-then-width-digit-count : goal.returns-then-width-digit-count
-returns-then-width-digit-count c =
+pub returns-then-width-digit_count : goal.returns-then-width-digit_count
+returns-then-width-digit_count c =
     let none = fits_no_more c.args.widths.now c.args.numbers.now c.loop-i.i c.loop-i.left
     (omega arith) (omega arith) (λ long digits. omega arith) in
     record { said = sym (c.loop-i.invariant.1 ∙ none); one_line = one_line }

@@ -6,16 +6,16 @@ use Rattle.store.proofs.columns.put_columns.Goals as goal
 pub loop-i-init : goal.loop-i-init
 loop-i-init c = written_none c.args.widths.now c.args.numbers.now c.args.out.now c.requires
 
-pub overflow-add-end : goal.overflow-add-end
-overflow-add-end c =
+pub overflow_add-end : goal.overflow_add-end
+overflow_add-end c =
     let widths = c.args.widths.now in
     let out = c.loop-i.out in
     let numbers = c.args.numbers.now in
     let room = next_room widths numbers out c.loop-i.i c.loop-i.at c.loop-i.invariant (omega arith) in
     omega arith
 
-pub slice-bounds-write-column-end : goal.slice-bounds-write-column-end
-slice-bounds-write-column-end c =
+pub slice_bounds-write_column-end : goal.slice_bounds-write_column-end
+slice_bounds-write_column-end c =
     let widths = c.args.widths.now in
     let out = c.loop-i.out in
     let numbers = c.args.numbers.now in
@@ -34,9 +34,9 @@ loop-i-preserved c =
     let fit = next_fits widths numbers out i at c.loop-i.invariant (omega arith) in
     let part = take (at + width - at) (drop at out) in
     let long : length part ≡ width = length-between out at (at + width) (omega arith) ∙ omega arith in
-    let is = column_is width (get_or numbers i 0) part c.write-column.new.out c.write-column.result long fit
-    c.write-column.ensures.said c.write-column.ensures.written in
-    written_more widths numbers out i at c.loop-i.invariant (omega arith) (at + width - at) c.write-column.new.out
+    let is = column_is width (get_or numbers i 0) part c.write_column.new.out c.write_column.result long fit
+    c.write_column.ensures.said c.write_column.ensures.written in
+    written_more widths numbers out i at c.loop-i.invariant (omega arith) (at + width - at) c.write_column.new.out
     (omega arith) is
 
 pub bounds-out-at : goal.bounds-out-at

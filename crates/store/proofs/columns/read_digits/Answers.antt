@@ -4,8 +4,8 @@ use Rattle.std.proofs.lemmas.List.{drop_all}
 use Rattle.store.proofs.Reading.{read_on_ge, read_on_more, all_digits_more}
 use Rattle.store.proofs.columns.read_digits.Goals as goal
 
-pub returns-then-not-is-ascii-digit : goal.returns-then-not-is-ascii-digit
-returns-then-not-is-ascii-digit c =
+pub returns-then-not-is_ascii_digit : goal.returns-then-not-is_ascii_digit
+returns-then-not-is_ascii_digit c =
     let more = all_digits_more c.args.text.now c.loop-byte.byte-index (omega arith) in
     grind (arith, nat_tests)
 

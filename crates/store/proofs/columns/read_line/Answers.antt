@@ -16,10 +16,10 @@ returns-then-rest-width g c =
     (take c.loop-i.i c.loop-i.numbers) (omega arith) (omega arith) in
     record { numbers = none ∙ sym c.loop-i.invariant.1; one_line = one_line }
 
-pub returns-in-default : goal.returns-in-default
-returns-in-default g c =
+pub returns-in_default : goal.returns-in_default
+returns-in_default g c =
     let none = columns_fault c.args.widths.now c.loop-i.rest.now c.loop-i.i
-    (take c.loop-i.i c.loop-i.numbers) (omega arith) (omega arith) c.in-default.ensures in
+    (take c.loop-i.i c.loop-i.numbers) (omega arith) (omega arith) c.in_default.ensures in
     record { numbers = none ∙ sym c.loop-i.invariant.1; one_line = one_line }
 
 pub loop-i-preserved : goal.loop-i-preserved
@@ -32,18 +32,18 @@ loop-i-preserved g c =
           (omega arith) (omega arith) (omega arith) behind c.in-Some.ensures,
     )
 
-pub returns-then-is-end : goal.returns-then-is-end
-returns-then-is-end g c =
+pub returns-then-is_end : goal.returns-then-is_end
+returns-then-is_end g c =
     let rest = c.loop-i.rest.now in
     let all = columns_all c.args.widths.now rest c.loop-i.numbers c.loop-i.i
     (omega arith) (omega arith) in
-    let end : is_end rest ≡ true = sym c.if-is-end.ensures in
+    let end : is_end rest ≡ true = sym c.if-is_end.ensures in
     record { numbers = sym (c.loop-i.invariant.1 ∙ all ∙ simp end); one_line = one_line }
 
-pub returns-else-is-end : goal.returns-else-is-end
-returns-else-is-end g c =
+pub returns-else-is_end : goal.returns-else-is_end
+returns-else-is_end g c =
     let rest = c.loop-i.rest.now in
     let all = columns_all c.args.widths.now rest c.loop-i.numbers c.loop-i.i
     (omega arith) (omega arith) in
-    let end : is_end rest ≡ false = sym c.if-is-end.ensures in
+    let end : is_end rest ≡ false = sym c.if-is_end.ensures in
     record { numbers = sym (c.loop-i.invariant.1 ∙ all ∙ simp end); one_line = one_line }

@@ -5,8 +5,8 @@ use Rattle.store.proofs.Numbers.{length_decimal_step}
 use Rattle.store.proofs.Writing.{digit_before, digit_first, digits_room, front_kept}
 use Rattle.store.proofs.columns.write_digits.Goals as goal
 
-pub overflow-sub-start : goal.overflow-sub-start
-overflow-sub-start c = omega (arith, decimal_nonempty c.args.number (omega arith))
+pub overflow_sub-start : goal.overflow_sub-start
+overflow_sub-start c = omega (arith, decimal_nonempty c.args.number (omega arith))
 
 pub loop-rest-init : goal.loop-rest-init
 loop-rest-init c =
@@ -20,8 +20,8 @@ loop-rest-init c =
       refl,
     )
 
-pub overflow-sub-start-in-loop-rest : goal.overflow-sub-start-in-loop-rest
-overflow-sub-start-in-loop-rest c =
+pub overflow_sub-start-in-loop-rest : goal.overflow_sub-start-in-loop-rest
+overflow_sub-start-in-loop-rest c =
     let rest = c.loop-rest.rest in
     let start = c.loop-rest.start in
     let room = digits_room c.args.number rest start c.loop-rest.out c.loop-rest.invariant.2 (omega arith) in
@@ -36,7 +36,7 @@ loop-rest-preserved c =
     let out = c.loop-rest.out in
     let digit = 48 + rest % 10 in
     let after = set out start digit in
-    let same : start - 1 + 1 ≡ start = omega (arith, overflow-sub-start-in-loop-rest c) in (
+    let same : start - 1 + 1 ≡ start = omega (arith, overflow_sub-start-in-loop-rest c) in (
       omega arith,
       omega (arith, length-set out start digit),
       c.loop-rest.invariant.2 ∙ digit_before rest start out (omega arith) (omega arith) (omega arith)

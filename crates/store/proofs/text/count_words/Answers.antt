@@ -13,7 +13,7 @@ returns-in-Words c =
       whole = omega (arith, found.0);
       formed = found.1;
       counted = length_words bytes n;
-      in-form = λ form. ap (words_to bytes) all;
+      in_form = λ form. ap (words_to bytes) all;
       others = λ none. absurd (none (form_from_lines bytes n found.0 found.1));
       one_form = one_text_form;
     }
@@ -26,7 +26,7 @@ returns-in-Fault c =
       whole = omega arith;
       formed = λ i h. absurd (omega arith);
       counted = length_words bytes 0;
-      in-form = λ form. absurd (fault_in_form bytes _ found.1 found.2 form);
+      in_form = λ form. absurd (fault_in_form bytes _ found.1 found.2 form);
       others = λ none. words_none bytes;
       one_form = one_text_form;
     }

@@ -11,7 +11,7 @@ returns c =
     let bytes = c.args.bytes.now in
     let part = take (at + 21 - at) (drop at bytes) in
     let long : length part ≡ 21 = length-between bytes at (at + 21) (omega arith) ∙ omega arith in
-    let line = line_written c.args.word part c.write-line.new.out c.write-line.result (omega arith) long
-    c.write-line.ensures.said c.write-line.ensures.written in
-    overlay_part at (at + 21 - at) bytes c.write-line.new.out (word_line c.args.word) line
+    let line = line_written c.args.word part c.write_line.new.out c.write_line.result (omega arith) long
+    c.write_line.ensures.said c.write_line.ensures.written in
+    overlay_part at (at + 21 - at) bytes c.write_line.new.out (word_line c.args.word) line
     (omega (arith, length_word_line c.args.word (omega arith)))

@@ -12,7 +12,7 @@ returns-then-i-lines c =
     let lines = c.args.lines in
     let at = c.args.at in
     let word = c.args.word in
-    let put = c.put-line.ensures in
+    let put = c.put_line.ensures in
     record {
       said = sym (lt-ltb at lines (omega arith));
       written = ap (λ (text : List ℕ). words_to text lines) put

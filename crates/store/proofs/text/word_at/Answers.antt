@@ -12,7 +12,7 @@ part_is bytes i = let n : 21 * i + 21 - 21 * i ≡ 21 = omega arith in ap (λ k.
 pub returns-then-i-lines : goal.returns-then-i-lines
 returns-then-i-lines c =
     let bytes = c.args.bytes.now in
-    c.read-word.ensures ∙ ap line_word (part_is bytes c.args.at)
+    c.read_word.ensures ∙ ap line_word (part_is bytes c.args.at)
     ∙ read_is bytes c.args.lines c.args.at (omega arith) c.requires.1
 
 pub returns-else-i-lines : goal.returns-else-i-lines

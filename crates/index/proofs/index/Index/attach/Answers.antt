@@ -1,8 +1,13 @@
-use Rattle.model.proofs.CallPromises.{attach_called}
-use Rattle.index.specs.Indexes.{state_of}
+use Rattle.std.proofs.Common.{ap, ◌∙◌}
+use Rattle.model.specs.Answers.{code, figure}
 use Rattle.index.proofs.index.Index.attach.Goals as goal
 
 pub returns : goal.returns
 returns g c =
-    attach_called (state_of g.S.Store.words c.args.self.now) c.attach-step.ensures
-    c.pair.ensures.code c.pair.ensures.figure
+    let step = c.attach-step.ensures in
+    let pair = c.pair.ensures in
+    record {
+      coded = pair.code ∙ ap code step.answer;
+      figured = pair.figure ∙ ap figure step.answer;
+      state = step.state;
+    }

@@ -5,6 +5,10 @@ use Rattle.index.proofs.index.Index.begin.Goals as goal
 
 pub returns : goal.returns
 returns g c =
-    called (rule_of g.O.Order.keyed g.O.Order.compared) g.met.O.Order.lawful (begin c.args.console c.args.kind c.args.key c.args.value)
-    (state_of g.S.Store.words c.args.self.now) c.begin-step.ensures c.pair.ensures.code
-    c.pair.ensures.figure
+    let o = rule_of g.O.Order.keyed g.O.Order.compared in
+    let laws = g.met.O.Order.lawful in
+    let before = state_of g.S.Store.words c.args.self.now in
+    let step = c.begin-step.ensures in
+    let pair = c.pair.ensures in
+    called o laws (begin c.args.console c.args.kind c.args.key c.args.value) before _ step.state
+    c.begin-step.result _ _ step.answer pair.code pair.figure

@@ -5,6 +5,10 @@ use Rattle.index.proofs.index.Index.merge.Goals as goal
 
 pub returns : goal.returns
 returns g c =
-    called (rule_of g.O.Order.keyed g.O.Order.compared) g.met.O.Order.lawful (merge c.args.page)
-    (state_of g.S.Store.words c.args.self.now) c.merge-step.ensures c.pair.ensures.code
-    c.pair.ensures.figure
+    let o = rule_of g.O.Order.keyed g.O.Order.compared in
+    let laws = g.met.O.Order.lawful in
+    let before = state_of g.S.Store.words c.args.self.now in
+    let step = c.merge-step.ensures in
+    let pair = c.pair.ensures in
+    called o laws (merge c.args.page) before _ step.state
+    c.merge-step.result _ _ step.answer pair.code pair.figure

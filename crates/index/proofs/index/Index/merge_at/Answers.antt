@@ -1,6 +1,7 @@
 use Rattle.std.proofs.Common.{◌+◌, ◌*◌, leb, ap, ◌∙◌, rules}
 use Rattle.page.specs.Buffers.{page_of}
 use Rattle.page.specs.Entries.{list_of}
+use Rattle.model.specs.declared.answers.Answer.TheVariants.{Merged}
 use Rattle.index.specs.Indexes.{state_of}
 use Rattle.index.proofs.Merging.{few_entries, pair_within, pair_small, pair_readable, parent_there, all_written}
 use Rattle.index.proofs.index.Index.merge_at.Goals as goal
@@ -45,8 +46,11 @@ save-requires g c =
     ∙ parent_there s c.args.page (page_of c.args.parent.now) c.requires.parent
 
 pub returns : goal.returns
-returns g c =
-    all_written (state_of g.S.Store.words c.args.self.now) c.args.page (page_of c.args.parent.now)
-    c.args.at c.child-at-left.result c.child-at-right.result
-    c.child-at-left.ensures c.child-at-right.ensures
-    c.merge-children.ensures.state c.without-entry.ensures c.save.ensures.state
+returns g c = record {
+  answer = ap Merged c.child-at-right.ensures;
+  state =
+      all_written (state_of g.S.Store.words c.args.self.now) c.args.page (page_of c.args.parent.now)
+      c.args.at c.child-at-left.result c.child-at-right.result
+      c.child-at-left.ensures c.child-at-right.ensures
+      c.merge-children.ensures.state c.without-entry.ensures c.save.ensures.state;
+}

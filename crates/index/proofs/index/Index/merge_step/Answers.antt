@@ -1,20 +1,27 @@
-use Rattle.std.proofs.Common.{sym, ◌∙◌}
+use Rattle.std.proofs.Common.{sym, ap, ◌∙◌}
 use Rattle.page.specs.Buffers.{page_of}
+use Rattle.model.specs.States.{Outcome}
 use Rattle.model.specs.Upkeep.{merge_page}
 use Rattle.index.specs.Indexes.{state_of}
 use Rattle.index.proofs.Merging.{merge_found}
 use Rattle.index.proofs.index.Index.merge_step.Goals as goal
 
 pub returns-in-Err : goal.returns-in-Err
-returns-in-Err g c = sym (c.in-Err.ensures (merge_page c.args.page))
+returns-in-Err g c =
+    let done = c.in-Err.ensures (merge_page c.args.page) in
+    record { answer = sym (ap (λ (o : Outcome). o.answer) done); state = sym (ap (λ (o : Outcome). o.after) done) }
 
 pub returns-in-Some : goal.returns-in-Some
 returns-in-Some g c =
-    c.merge_at_lem.ensures
-    ∙ merge_found (state_of g.S.Store.words c.args.self.now) c.args.page (page_of c.in-Ok.parent)
-    c.in-Ok.ensures.1 c.in-Some.ensures
+    let done = merge_found (state_of g.S.Store.words c.args.self.now) c.args.page
+    (page_of c.in-Ok.parent) c.in-Ok.ensures.1 c.in-Some.ensures in
+    record {
+      answer = c.merge_at_lem.ensures.answer ∙ ap (λ (o : Outcome). o.answer) done;
+      state = c.merge_at_lem.ensures.state ∙ ap (λ (o : Outcome). o.after) done;
+    }
 
 pub returns-in-None : goal.returns-in-None
 returns-in-None g c =
-    merge_found (state_of g.S.Store.words c.args.self.now) c.args.page (page_of c.in-Ok.parent)
-    c.in-Ok.ensures.1 c.in-None.ensures
+    let done = merge_found (state_of g.S.Store.words c.args.self.now) c.args.page
+    (page_of c.in-Ok.parent) c.in-Ok.ensures.1 c.in-None.ensures in
+    record { answer = ap (λ (o : Outcome). o.answer) done; state = ap (λ (o : Outcome). o.after) done }

@@ -1,8 +1,8 @@
-use Rattle.std.proofs.Common.{sym, ap, ◌∙◌, arith}
-use Rattle.std.proofs.lemmas.Bool.{ltb-true}
+use Rattle.std.proofs.Common.{◌<◌, ◌≤◌, length, ap, ◌∙◌, arith}
+use Rattle.std.proofs.lemmas.Bool.{both_ways}
 use Rattle.page.specs.Buffers.{page_of}
 use Rattle.page.specs.Entries.{list_of}
-use Rattle.model.specs.States.{view, readable}
+use Rattle.model.specs.States.{Outcome, view, write, readable}
 use Rattle.index.specs.Indexes.{state_of, rule_of}
 use Rattle.index.proofs.Children.{child_readable}
 use Rattle.index.proofs.Merging.{parent_there}
@@ -17,21 +17,28 @@ split-full-requires g c = record {
       c.requires.parent;
 }
 
-pub returns-then-not-has-room : goal.returns-then-not-has-room
-returns-then-not-has-room g c =
-    c.split_full_lem.ensures
-    ∙ posted_full (rule_of g.O.Order.keyed g.O.Order.compared)
-    (state_of g.S.Store.words c.args.self.now) c.args.page (page_of c.args.parent.now) c.args.at
-    (sym c.if-not-has-room.ensures) c.requires.parent.known
+pub returns-then-len-self : goal.returns-then-len-self
+returns-then-len-self g c =
+    let parent = c.args.parent.now in
+    let full : c.args.self.now.fill ≤ length (list_of parent.entries) = omega arith in
+    let done = posted_full (rule_of g.O.Order.keyed g.O.Order.compared)
+    (state_of g.S.Store.words c.args.self.now) c.args.page (page_of parent) c.args.at full
+    c.requires.parent.known in
+    record {
+      answer = c.split_full_lem.ensures.answer ∙ ap (λ (o : Outcome). o.answer) done;
+      state = c.split_full_lem.ensures.state ∙ ap (λ (o : Outcome). o.after) done;
+    }
 
-pub known-page-child-requires : goal.known-page-child-requires
-known-page-child-requires g c =
+pub returns-in-default : goal.returns-in-default
+returns-in-default g c =
     let s = state_of g.S.Store.words c.args.self.now in
     let parent = c.args.parent.now in
     let within = short_within (rule_of g.O.Order.keyed g.O.Order.compared) s parent.end
     (list_of parent.entries) c.args.at c.requires.short in
-    ap (λ n. readable s.fill (view s n)) c.child_at_lem.ensures
-    ∙ child_readable s parent.level (list_of parent.entries) c.requires.parent.children c.args.at within
+    let held = child_readable s parent.level (list_of parent.entries) c.requires.parent.children
+    c.args.at within in
+    absurd (both_ways (readable s.fill (view s c.child_at_lem.result)) c.in-default.ensures
+    (ap (λ n. readable s.fill (view s n)) c.child_at_lem.ensures ∙ held))
 
 pub posted-requires : goal.posted-requires
 posted-requires g c =
@@ -40,7 +47,7 @@ posted-requires g c =
     (state_of g.S.Store.words c.args.self.now) parent.end
     (list_of parent.entries) c.args.at c.requires.short in
     let few = c.args.self.now.few in
-    record { place = within; room = omega (arith, ltb-true _ _ (sym c.if-not-has-room.ensures)) }
+    record { place = within; room = omega arith }
 
 pub save-requires : goal.save-requires
 save-requires g c =
@@ -49,6 +56,15 @@ save-requires g c =
 
 pub returns : goal.returns
 returns g c =
-    posted_in (rule_of g.O.Order.keyed g.O.Order.compared) (state_of g.S.Store.words c.args.self.now)
-    c.args.page (page_of c.args.parent.now) c.args.at (sym c.if-not-has-room.ensures)
-    c.child_at_lem.ensures c.known-page-child.ensures c.posted.ensures c.save.ensures.state
+    let o = rule_of g.O.Order.keyed g.O.Order.compared in
+    let s = state_of g.S.Store.words c.args.self.now in
+    let parent = c.args.parent.now in
+    let child = page_of c.in-Some.child in
+    let room : length (list_of parent.entries) < c.args.self.now.fill = omega arith in
+    let done = posted_in o s c.args.page (page_of parent) c.args.at room c.child_at_lem.ensures child
+    c.in-Some.ensures.1 in
+    record {
+      answer = ap (λ (o : Outcome). o.answer) done;
+      state = c.save.ensures.state ∙ ap (λ z. write c.args.page z s) c.posted.ensures
+          ∙ ap (λ (o : Outcome). o.after) done;
+    }

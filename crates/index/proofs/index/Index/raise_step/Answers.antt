@@ -1,25 +1,21 @@
-use Rattle.std.proofs.Common.{◌∙◌}
+-- The root can rise and has a neighbour.
+use Rattle.std.proofs.Common.{Ok, Err, sym, ap, ◌∙◌}
 use Rattle.page.specs.Buffers.{page_of}
-use Rattle.model.specs.States.{view}
+use Rattle.model.specs.States.{Outcome, view}
 use Rattle.index.specs.Indexes.{state_of}
-use Rattle.index.proofs.Raising.{below_top, raise_refused, raise_nothing, raise_into_lem, raised_in}
+use Rattle.index.proofs.Raising.{below_top, raised, raised_state}
 use Rattle.index.proofs.index.Index.raise_step.Goals as goal
-
-pub returns-in-default : goal.returns-in-default
-returns-in-default g c =
-    raise_refused (state_of g.S.Store.words c.args.self.now) c.root-root.ensures c.in-default.ensures
-
-pub returns-then-old-eq0 : goal.returns-then-old-eq0
-returns-then-old-eq0 g c =
-    let found = c.in-Some.ensures in
-    raise_nothing (state_of g.S.Store.words c.args.self.now) c.root-root.ensures found.0 found.1
-    c.if-old-eq0.true
 
 pub returns-in-Err : goal.returns-in-Err
 returns-in-Err g c =
+    let s = state_of g.S.Store.words c.args.self.now in
     let found = c.in-Some.ensures in
-    raise_into_lem (state_of g.S.Store.words c.args.self.now) c.root-root.ensures found.0 found.1
-    c.if-old-eq0.false c.in-Err.ensures
+    let outcome = raised s c.root-root.result (page_of c.in-Some.old) (Err c.in-Err.refusal)
+    c.root-root.ensures found.0 found.1 c.if-old-eq0.false c.in-Err.ensures in
+    record {
+      answer = sym (ap (λ (o : Outcome). o.answer) outcome);
+      state = sym (ap (λ (o : Outcome). o.after) outcome);
+    }
 
 pub put-root-over-requires : goal.put-root-over-requires
 put-root-over-requires g c =
@@ -32,9 +28,17 @@ put-root-over-requires g c =
 
 pub returns : goal.returns
 returns g c =
-    let s = state_of g.S.Store.words c.args.self.now in
-    let top = c.root-root.ensures in
+    let words = g.S.Store.words in
+    let s = state_of words c.args.self.now in
+    let r = c.root-root.result in
+    let x = page_of c.in-Some.old in
+    let n = c.in-Ok.taken.0 in
     let found = c.in-Some.ensures in
     let free = c.in-Ok.ensures in
-    raised_in s top found.0 found.1 free.2 c.put-root-over.ensures
-    ∙ raise_into_lem s top found.0 found.1 c.if-old-eq0.false free.0
+    let outcome = raised s r x (Ok n) c.root-root.ensures found.0 found.1 c.if-old-eq0.false free.0 in
+    let after = raised_state s (state_of words c.put-root-over.new.self) r n c.in-Ok.taken.1 x
+    c.root-root.ensures found.1 free.2 c.put-root-over.ensures in
+    record {
+      answer = sym (ap (λ (o : Outcome). o.answer) outcome);
+      state = after ∙ sym (ap (λ (o : Outcome). o.after) outcome);
+    }

@@ -1,5 +1,6 @@
-use Rattle.std.proofs.Common.{sym, ◌∙◌, arith}
+use Rattle.std.proofs.Common.{sym, ap, ◌∙◌, arith}
 use Rattle.page.specs.Buffers.{page_of}
+use Rattle.model.specs.States.{Outcome}
 use Rattle.index.specs.Indexes.{state_of, rule_of}
 use Rattle.index.proofs.Turning.{turn_reads}
 use Rattle.index.proofs.index.Index.turn_step.Goals as goal
@@ -10,4 +11,7 @@ returns g c =
     let turned = turn_reads (rule_of g.O.Order.keyed g.O.Order.compared) c.args.console
     (state_of g.S.Store.words c.args.self.now) c.in-Some.job (page_of c.in-Some-page.page)
     (omega arith) (sym c.job.ensures ∙ c.in-Some.is) read.0 read.1 in
-    c.turn-on.ensures ∙ sym turned
+    record {
+      answer = c.turn-on.ensures.answer ∙ ap (λ (r : Outcome). r.answer) (sym turned);
+      state = c.turn-on.ensures.state ∙ ap (λ (r : Outcome). r.after) (sym turned);
+    }

@@ -1,7 +1,6 @@
 -- A page is left at the first hit, unmarked; one without a hit is marked.
-use Rattle.std.proofs.Common.{◌≡◌, false, get_or, None, sym, refl, ap, ◌∙◌, arith, below_more}
+use Rattle.std.proofs.Common.{◌≡◌, true, false, get_or, None, arith, below_more}
 use Rattle.std.proofs.lemmas.Bool.Decides.{nat_tests}
-use Rattle.model.specs.Upkeep.{any_job_on}
 use Rattle.index.specs.Jobs.{is_on}
 use Rattle.index.specs.Indexes.{state_of}
 use Rattle.index.proofs.Marks.{gone_to_more, none_points, any_hit, none_stands}
@@ -16,28 +15,23 @@ pub pages-preserved-in-default : goal.pages-preserved-in-default
 pages-preserved-in-default g c =
     let s = state_of g.S.Store.words c.args.self.now in
     let p = c.pages.page in
-    marking_kept s c.pages.marked p c.pages.invariant
-    (not_gone s p (λ gone. c.in-default.not-Gone (c.state-of.ensures ∙ gone)))
+    marking_kept s c.pages.marked p c.pages.invariant (not_gone s p c.in-default.ensures)
 
 pub pages-preserved-then-is-on : goal.pages-preserved-then-is-on
 pages-preserved-then-is-on g c =
     let s = state_of g.S.Store.words c.args.self.now in
     let p = c.pages.page in
-    let hit = any_hit p c.jobs-job-items.result.now c.loop-console.-console
-    (sym c.is-on.ensures ∙ c.if-is-on.true) in
-    marking_kept s c.pages.marked p c.pages.invariant
-    (stood_on s p (ap (any_job_on p) (sym c.jobs-job-items.ensures) ∙ hit))
+    let i = c.loop-console.console in
+    let on : is_on p (get_or s.jobs i None) ≡ true = grind (arith, nat_tests) in
+    marking_kept s c.pages.marked p c.pages.invariant (stood_on s p (any_hit p s.jobs i on))
 
 pub loop-console-preserved : goal.loop-console-preserved
 loop-console-preserved g c =
-    below_more (λ k. is_on c.pages.page (get_or c.jobs-job-items.result.now k None) ≡ false)
-    c.loop-console.-console c.loop-console.invariant (sym c.is-on.ensures ∙ c.if-is-on.false)
-
-pub loop-other-init : goal.loop-other-init
-loop-other-init g c =
-    let none = none_stands c.pages.page c.jobs-job-items.result.now
-    (λ k lt. c.loop-console.invariant k (omega arith)) in
-    (ap (any_job_on c.pages.page) (sym c.jobs-job-items.ensures) ∙ none, refl)
+    let p = c.pages.page in
+    let i = c.loop-console.console in
+    let jobs = c.args.self.now.consoles.jobs in
+    let off : is_on p (get_or jobs i None) ≡ false = grind (arith, nat_tests) in
+    below_more (λ k. is_on p (get_or jobs k None) ≡ false) i c.loop-console.invariant off
 
 pub pages-preserved-then-points-to : goal.pages-preserved-then-points-to
 pages-preserved-then-points-to g c =
@@ -58,8 +52,9 @@ pub pages-preserved : goal.pages-preserved
 pages-preserved g c =
     let s = state_of g.S.Store.words c.args.self.now in
     let p = c.pages.page in
-    let gone = sym c.state-of.ensures ∙ c.in-Gone.is in
+    let full = c.args.self.now.consoles.full in
+    let stood = none_stands p s.jobs (λ k lt. c.loop-other.invariant.0 k (omega arith)) in
     let pointed = none_points s p c.loop-other.other (omega arith) c.loop-other.invariant.1 in
     let bounded = c.args.self.now.bounded in
     marking_set s c.pages.marked p (omega arith) c.pages.invariant
-    (unreached_here s p gone c.loop-other.invariant.0 pointed)
+    (unreached_here s p c.in-Some.ensures.0 stood pointed)

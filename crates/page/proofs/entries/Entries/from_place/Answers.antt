@@ -9,5 +9,5 @@ returns c =
     let few = e.few in
     let full = e.full in
     let k = c.min-skipped.result in
-    ap (take (e.count - k)) c.rotate-left.ensures.after
+    ap (take (e.count - k)) c.rotate_left.ensures.after
     ∙ cut_back e.items e.count c.args.at k (omega arith) c.min-skipped.ensures

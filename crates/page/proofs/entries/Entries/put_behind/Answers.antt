@@ -5,8 +5,8 @@ use Rattle.std.proofs.lemmas.Slice.{overwrites}
 use Rattle.page.proofs.EntryLists.{length_list}
 use Rattle.page.proofs.entries.Entries.put_behind.Goals as goal
 
-pub invariant-of-self : goal.invariant-of-self
-invariant-of-self c = let was = length_list c.args.self.now in search (rules, places)
+pub invariant_of-self : goal.invariant_of-self
+invariant_of-self c = let was = length_list c.args.self.now in search (rules, places)
 
 pub returns : goal.returns
 returns c = let was = length_list c.args.self.now in search (rules, overwrites)

@@ -4,8 +4,8 @@ use Rattle.std.proofs.lemmas.List.{places}
 use Rattle.page.proofs.EntryLists.{length_list, first_to_end}
 use Rattle.page.proofs.entries.Entries.take_out.Goals as goal
 
-pub invariant-of-self : goal.invariant-of-self
-invariant-of-self c = let was = length_list c.args.self.now in search (rules, places)
+pub invariant_of-self : goal.invariant_of-self
+invariant_of-self c = let was = length_list c.args.self.now in search (rules, places)
 
 pub returns : goal.returns
 returns c =
@@ -14,4 +14,4 @@ returns c =
     let full = e.full in
     let few = e.few in
     first_to_end e.items _ _ c.args.at e.count (omega arith) (omega arith) refl
-    c.rotate-left.ensures.after
+    c.rotate_left.ensures.after
