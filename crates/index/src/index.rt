@@ -2,12 +2,10 @@
 ghost use Rattle.std.specs.Prelude.{◌≤◌};
 
 use crate::consoles::Consoles;
-use order::Order;
 use std::marker::PhantomData;
-use store::Store;
 
 /// An index over a store, under an order of keys.
-pub struct Index<S: Store, O: Order> {
+pub struct Index<S, O> {
     pub(crate) store: S,
     pub(crate) consoles: Consoles,
     pub(crate) pages: u64,

@@ -13,8 +13,8 @@ loop-page-preserved g c =
     let p = c.loop-page.page in
     let n = c.args.pages in
     let room : 64 * p + 64 ≤ length w = omega arith in
-    let free = c.free-page-to.ensures ∙ ap free_page_to c.next-of.ensures in
-    let written = c.write-page.ensures.written ∙ put_there w p _ room ∙ ap (put w p) free in (
+    let free = c.free_page_to.ensures ∙ ap free_page_to c.next_of.ensures in
+    let written = c.write_page.ensures.written ∙ put_there w p _ room ∙ ap (put w p) free in (
       ap length written ∙ length_bare w p (free_page_to (next_of n p)) (omega arith) room ∙ c.loop-page.invariant.0,
       written ∙ ap (λ v. put v p (free_page_to (next_of n p))) c.loop-page.invariant.1
           ∙ sym (chain_more n 2 (p - 2) (p + 1 - 2) p before (omega arith) (omega arith)),

@@ -6,7 +6,7 @@ use Rattle.index.proofs.consoles.Consoles.clear.Goals as goal
 pub loop-console-preserved : goal.loop-console-preserved
 loop-console-preserved c =
     let items = c.loop-console.job-items in
-    let i = c.loop-console.-console in (
+    let i = c.loop-console._console in (
       length-set items i _ ∙ c.loop-console.invariant.0,
       below_more _ _
           (λ k h. let ne : k ≢ i = omega arith in get_or-set_other items i k _ None ne ∙ c.loop-console.invariant.1 k h)

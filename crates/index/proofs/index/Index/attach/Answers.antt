@@ -4,7 +4,7 @@ use Rattle.index.proofs.index.Index.attach.Goals as goal
 
 pub returns : goal.returns
 returns g c =
-    let step = c.attach-step.ensures in
+    let step = c.attach_step.ensures in
     let pair = c.pair.ensures in
     record {
       coded = pair.code ∙ ap code step.answer;

@@ -8,7 +8,7 @@ returns g c =
     let o = rule_of g.O.Order.keyed g.O.Order.compared in
     let laws = g.met.O.Order.lawful in
     let before = state_of g.S.Store.words c.args.self.now in
-    let step = c.begin-step.ensures in
+    let step = c.begin_step.ensures in
     let pair = c.pair.ensures in
     called o laws (begin c.args.console c.args.kind c.args.key c.args.value) before _ step.state
-    c.begin-step.result _ _ step.answer pair.code pair.figure
+    c.begin_step.result _ _ step.answer pair.code pair.figure

@@ -5,7 +5,7 @@ use Rattle.index.proofs.index.Index.format.Goals as goal
 pub returns : goal.returns
 returns g c =
     let before = state_of g.S.Store.words c.args.self.now in
-    let step = c.format-step.ensures in
+    let step = c.format_step.ensures in
     let pair = c.pair.ensures in
     format_called c.args.fill before _ step.state
-    c.format-step.result _ _ step.answer pair.code pair.figure
+    c.format_step.result _ _ step.answer pair.code pair.figure

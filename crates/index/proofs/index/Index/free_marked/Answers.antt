@@ -19,7 +19,7 @@ loop-page-preserved g c =
     elim c.if-marked-page.branch [
       | then-marked-page w ↦ subst (λ f. Freed s (p + 1) u f) (sym w.freed-is)
           (freed_one s t u p c.loop-page.freed (omega arith) (omega arith) (sym mark ∙ w.if-marked-page.true)
-          c.loop-page.invariant (ap (state_of words) w.self-is ∙ w.give-back.ensures))
+          c.loop-page.invariant (ap (state_of words) w.self-is ∙ w.give_back.ensures))
       | else-marked-page w ↦
           subst (λ x. Freed s (p + 1) (state_of words x) c.if-marked-page.freed) (sym w.self-is)
           (subst (λ f. Freed s (p + 1) t f) (sym w.freed-is)

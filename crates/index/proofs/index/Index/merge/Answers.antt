@@ -8,7 +8,7 @@ returns g c =
     let o = rule_of g.O.Order.keyed g.O.Order.compared in
     let laws = g.met.O.Order.lawful in
     let before = state_of g.S.Store.words c.args.self.now in
-    let step = c.merge-step.ensures in
+    let step = c.merge_step.ensures in
     let pair = c.pair.ensures in
     called o laws (merge c.args.page) before _ step.state
-    c.merge-step.result _ _ step.answer pair.code pair.figure
+    c.merge_step.result _ _ step.answer pair.code pair.figure

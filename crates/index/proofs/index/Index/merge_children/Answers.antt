@@ -14,6 +14,6 @@ returns g c = record {
   state =
       both_written (state_of g.S.Store.words c.args.self.now) c.args.left c.args.right
       c.in-Some.ensures.1 c.in-Some-page.ensures.1
-      c.joined.ensures c.gone-into.ensures c.save.ensures.state c.save-2.ensures.state;
+      c.joined.ensures c.gone_into.ensures c.save.ensures.state c.save-2.ensures.state;
   long = c.save-2.ensures.long ∙ c.save.ensures.long;
 }

@@ -16,8 +16,8 @@ returns-in-Some g c =
     let done = merge_found (state_of g.S.Store.words c.args.self.now) c.args.page
     (page_of c.in-Ok.parent) c.in-Ok.ensures.1 c.in-Some.ensures in
     record {
-      answer = c.merge_at_lem.ensures.answer ∙ ap (λ (o : Outcome). o.answer) done;
-      state = c.merge_at_lem.ensures.state ∙ ap (λ (o : Outcome). o.after) done;
+      answer = c.merge_at.ensures.answer ∙ ap (λ (o : Outcome). o.answer) done;
+      state = c.merge_at.ensures.state ∙ ap (λ (o : Outcome). o.after) done;
     }
 
 pub returns-in-None : goal.returns-in-None

@@ -9,8 +9,8 @@ use Rattle.index.proofs.Merging.{parent_there}
 use Rattle.index.proofs.Posting.{short_within, posted_full, posted_in}
 use Rattle.index.proofs.index.Index.post_at.Goals as goal
 
-pub split-full-requires : goal.split-full-requires
-split-full-requires g c = record {
+pub split_full-requires : goal.split_full-requires
+split_full-requires g c = record {
   read = c.requires.parent.known;
   there =
       parent_there (state_of g.S.Store.words c.args.self.now) c.args.page (page_of c.args.parent.now)
@@ -25,20 +25,20 @@ returns-then-len-self g c =
     (state_of g.S.Store.words c.args.self.now) c.args.page (page_of parent) c.args.at full
     c.requires.parent.known in
     record {
-      answer = c.split_full_lem.ensures.answer ∙ ap (λ (o : Outcome). o.answer) done;
-      state = c.split_full_lem.ensures.state ∙ ap (λ (o : Outcome). o.after) done;
+      answer = c.split_full.ensures.answer ∙ ap (λ (o : Outcome). o.answer) done;
+      state = c.split_full.ensures.state ∙ ap (λ (o : Outcome). o.after) done;
     }
 
-pub returns-in-default : goal.returns-in-default
-returns-in-default g c =
+pub returns-in_default : goal.returns-in_default
+returns-in_default g c =
     let s = state_of g.S.Store.words c.args.self.now in
     let parent = c.args.parent.now in
     let within = short_within (rule_of g.O.Order.keyed g.O.Order.compared) s parent.end
     (list_of parent.entries) c.args.at c.requires.short in
     let held = child_readable s parent.level (list_of parent.entries) c.requires.parent.children
     c.args.at within in
-    absurd (both_ways (readable s.fill (view s c.child_at_lem.result)) c.in-default.ensures
-    (ap (λ n. readable s.fill (view s n)) c.child_at_lem.ensures ∙ held))
+    absurd (both_ways (readable s.fill (view s c.child_at.result)) c.in_default.ensures
+    (ap (λ n. readable s.fill (view s n)) c.child_at.ensures ∙ held))
 
 pub posted-requires : goal.posted-requires
 posted-requires g c =
@@ -61,7 +61,7 @@ returns g c =
     let parent = c.args.parent.now in
     let child = page_of c.in-Some.child in
     let room : length (list_of parent.entries) < c.args.self.now.fill = omega arith in
-    let done = posted_in o s c.args.page (page_of parent) c.args.at room c.child_at_lem.ensures child
+    let done = posted_in o s c.args.page (page_of parent) c.args.at room c.child_at.ensures child
     c.in-Some.ensures.1 in
     record {
       answer = ap (λ (o : Outcome). o.answer) done;

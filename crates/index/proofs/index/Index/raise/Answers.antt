@@ -8,7 +8,7 @@ returns g c =
     let o = rule_of g.O.Order.keyed g.O.Order.compared in
     let laws = g.met.O.Order.lawful in
     let before = state_of g.S.Store.words c.args.self.now in
-    let step = c.raise-step.ensures in
+    let step = c.raise_step.ensures in
     let pair = c.pair.ensures in
     called o laws raise before _ step.state
-    c.raise-step.result _ _ step.answer pair.code pair.figure
+    c.raise_step.result _ _ step.answer pair.code pair.figure

@@ -17,8 +17,8 @@ returns-in-Err g c =
       state = sym (ap (λ (o : Outcome). o.after) outcome);
     }
 
-pub put-root-over-requires : goal.put-root-over-requires
-put-root-over-requires g c =
+pub put_root_over-requires : goal.put_root_over-requires
+put_root_over-requires g c =
     let s = state_of g.S.Store.words c.args.self.now in
     let found = c.in-Some.ensures in
     record {
@@ -36,8 +36,8 @@ returns g c =
     let found = c.in-Some.ensures in
     let free = c.in-Ok.ensures in
     let outcome = raised s r x (Ok n) c.root-root.ensures found.0 found.1 c.if-old-eq0.false free.0 in
-    let after = raised_state s (state_of words c.put-root-over.new.self) r n c.in-Ok.taken.1 x
-    c.root-root.ensures found.1 free.2 c.put-root-over.ensures in
+    let after = raised_state s (state_of words c.put_root_over.new.self) r n c.in-Ok.taken.1 x
+    c.root-root.ensures found.1 free.2 c.put_root_over.ensures in
     record {
       answer = sym (ap (λ (o : Outcome). o.answer) outcome);
       state = after ∙ sym (ap (λ (o : Outcome). o.after) outcome);

@@ -9,8 +9,8 @@ returns g c =
     record {
       state = search rules;
       long = length_saved (g.S.Store.words c.args.self.now.store)
-          (g.S.Store.words c.write-page.new.store)
+          (g.S.Store.words c.write_page.new.store)
           c.args.page (page_of buf)
           (omega (arith, buf.entries.few, length-take buf.entries.count buf.entries.items)) c.requires
-          c.write-page.ensures.written;
+          c.write_page.ensures.written;
     }

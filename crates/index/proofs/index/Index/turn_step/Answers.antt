@@ -12,6 +12,6 @@ returns g c =
     (state_of g.S.Store.words c.args.self.now) c.in-Some.job (page_of c.in-Some-page.page)
     (omega arith) (sym c.job.ensures ∙ c.in-Some.is) read.0 read.1 in
     record {
-      answer = c.turn-on.ensures.answer ∙ ap (λ (r : Outcome). r.answer) (sym turned);
-      state = c.turn-on.ensures.state ∙ ap (λ (r : Outcome). r.after) (sym turned);
+      answer = c.turn_on.ensures.answer ∙ ap (λ (r : Outcome). r.answer) (sym turned);
+      state = c.turn_on.ensures.state ∙ ap (λ (r : Outcome). r.after) (sym turned);
     }

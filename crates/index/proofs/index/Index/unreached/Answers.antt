@@ -11,14 +11,14 @@ use Rattle.index.proofs.index.Index.unreached.Goals as goal
 pub pages-init : goal.pages-init
 pages-init g c = marking_none (state_of g.S.Store.words c.args.self.now)
 
-pub pages-preserved-in-default : goal.pages-preserved-in-default
-pages-preserved-in-default g c =
+pub pages-preserved-in_default : goal.pages-preserved-in_default
+pages-preserved-in_default g c =
     let s = state_of g.S.Store.words c.args.self.now in
     let p = c.pages.page in
-    marking_kept s c.pages.marked p c.pages.invariant (not_gone s p c.in-default.ensures)
+    marking_kept s c.pages.marked p c.pages.invariant (not_gone s p c.in_default.ensures)
 
-pub pages-preserved-then-is-on : goal.pages-preserved-then-is-on
-pages-preserved-then-is-on g c =
+pub pages-preserved-then-is_on : goal.pages-preserved-then-is_on
+pages-preserved-then-is_on g c =
     let s = state_of g.S.Store.words c.args.self.now in
     let p = c.pages.page in
     let i = c.loop-console.console in
@@ -33,8 +33,8 @@ loop-console-preserved g c =
     let off : is_on p (get_or jobs i None) ≡ false = grind (arith, nat_tests) in
     below_more (λ k. is_on p (get_or jobs k None) ≡ false) i c.loop-console.invariant off
 
-pub pages-preserved-then-points-to : goal.pages-preserved-then-points-to
-pages-preserved-then-points-to g c =
+pub pages-preserved-then-points_to : goal.pages-preserved-then-points_to
+pages-preserved-then-points_to g c =
     let s = state_of g.S.Store.words c.args.self.now in
     let p = c.pages.page in
     let more = gone_to_more s p c.loop-other.other s.pages (omega arith) in
