@@ -2,10 +2,10 @@ use Rattle.std.proofs.Common.{ap, ◌∙◌}
 use Rattle.runner.specs.Lines.{asked, request_of}
 use Rattle.runner.proofs.lines.read_request.Goals as goal
 
-pub returns-in-err-read-call : goal.returns-in-err-read-call
+pub returns-in_err-read_call : goal.returns-in_err-read_call
 unfolding request_of
-returns-in-err-read-call c = c.from-residual.ensures ∙ ap asked c.in-err-read-call.ensures.numbers
+returns-in_err-read_call c = c.from_residual.ensures ∙ ap asked c.in_err-read_call.ensures.numbers
 
 pub returns : goal.returns
 unfolding request_of
-returns c = c.request.ensures ∙ ap asked c.in-ok-read-call.ensures.numbers
+returns c = c.request.ensures ∙ ap asked c.in_ok-read_call.ensures.numbers

@@ -6,7 +6,7 @@ pub returns : goal.returns
 unfolding answer_line
 returns c =
     record {
-      said = c.write-line.ensures.said;
-      written = c.write-line.ensures.written;
+      said = c.write_line.ensures.said;
+      written = c.write_line.ensures.written;
       one_line = one_line_in answer_widths;
     }

@@ -10,9 +10,9 @@ pub returns : goal.returns
 returns c =
     let input = c.args.input.now in
     let start = ap unmade c.new.ensures.same in
-    let ran = c.run-new.ensures in
+    let ran = c.run_new.ensures in
     record {
       lines = ran.lines;
-      answers = answers_from load_order input c.args.output.now _ c.run-new.result _ _ start ran.answers;
+      answers = answers_from load_order input c.args.output.now _ c.run_new.result _ _ start ran.answers;
       promises = subst (λ (s : State). RunKept load_order input s) start ran.promises;
     }

@@ -17,9 +17,9 @@ loop-i-preserved c =
     let text = c.loop-i.text in
     let part = take (at + 21 - at) (drop at text) in
     let long : length part ≡ 21 = length-between text at (at + 21) (omega arith) ∙ omega arith in
-    let line = line_written 0 part c.write-line.new.out c.write-line.result (omega arith) long
-    c.write-line.ensures.said c.write-line.ensures.written in
-    overlay_part at (at + 21 - at) text c.write-line.new.out (word_line 0) line
+    let line = line_written 0 part c.write_line.new.out c.write_line.result (omega arith) long
+    c.write_line.ensures.said c.write_line.ensures.written in
+    overlay_part at (at + 21 - at) text c.write_line.new.out (word_line 0) line
     (omega (arith, length_word_line 0 (omega arith)))
     ∙ ap (λ t. overlay t at (word_line 0)) c.loop-i.invariant
     ∙ zeros_more c.args.text.now i (omega arith)

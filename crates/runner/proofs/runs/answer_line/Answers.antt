@@ -7,20 +7,20 @@ returns-in-Some g c =
     let o = rule_of g.O.Order.keyed g.O.Order.compared in
     let before = state_of g.S.Store.words c.args.index.now in
     let given = run_gives o c.args.line.now c.args.number before c.in-Some.request _ _ _
-    c.in-Some.ensures c.if-is-due.ensures c.perform.ensures in
+    c.in-Some.ensures c.if-is_due.ensures c.perform.ensures in
     record { code = given.code; figure = given.figure; state = given.state }
 
-pub returns-in-default : goal.returns-in-default
-returns-in-default g c =
+pub returns-in_default : goal.returns-in_default
+returns-in_default g c =
     let o = rule_of g.O.Order.keyed g.O.Order.compared in
     let before = state_of g.S.Store.words c.args.index.now in
     let given = early_gives o c.args.line.now c.args.number before c.in-Some.request
-    c.in-Some.ensures c.if-is-due.ensures in
+    c.in-Some.ensures c.if-is_due.ensures in
     record { code = given.code; figure = given.figure; state = given.state }
 
-pub returns-in-default·2 : goal.returns-in-default·2
-returns-in-default·2 g c =
+pub returns-in_default-2 : goal.returns-in_default-2
+returns-in_default-2 g c =
     let o = rule_of g.O.Order.keyed g.O.Order.compared in
     let before = state_of g.S.Store.words c.args.index.now in
-    let given = unread_gives o c.args.line.now c.args.number before c.in-default.ensures in
+    let given = unread_gives o c.args.line.now c.args.number before c.in_default.ensures in
     record { code = given.code; figure = given.figure; state = given.state }

@@ -13,7 +13,7 @@ returns c =
     let figure = c.args.figure in
     let part = take (at + 25 - at) (drop at output) in
     let long : length part ≡ 25 = length-between output at (at + 25) (omega arith) ∙ omega arith in
-    let line = answer_written code figure (omega arith) (omega arith) part c.write-answer.new.out
-    c.write-answer.result long c.write-answer.ensures.said c.write-answer.ensures.written in
-    overlay_part at (at + 25 - at) output c.write-answer.new.out (answer_line code figure) line
+    let line = answer_written code figure (omega arith) (omega arith) part c.write_answer.new.out
+    c.write_answer.result long c.write_answer.ensures.said c.write_answer.ensures.written in
+    overlay_part at (at + 25 - at) output c.write_answer.new.out (answer_line code figure) line
     (omega (arith, length_answer_line code figure (omega arith) (omega arith)))

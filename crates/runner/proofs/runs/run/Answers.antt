@@ -11,14 +11,14 @@ loop-i-init g c =
     run_none (rule_of g.O.Order.keyed g.O.Order.compared) c.args.input.now
     (state_of g.S.Store.words c.args.index.now) c.args.output.now
 
-pub put-answer-requires : goal.put-answer-requires
-put-answer-requires g c =
+pub put_answer-requires : goal.put_answer-requires
+put_answer-requires g c =
     let o = rule_of g.O.Order.keyed g.O.Order.compared in
     let at = 73 * c.loop-i.i in
     let line = take (at + 73 - at) (drop at c.args.input.now) in
     let s = state_of g.S.Store.words c.loop-i.index in
     let short = line_short o line (c.loop-i.i + 1) s in
-    (omega arith, omega (arith, c.answer-line-code.ensures.code))
+    (omega arith, omega (arith, c.answer_line-code.ensures.code))
 
 pub loop-i-preserved : goal.loop-i-preserved
 loop-i-preserved g c =
@@ -31,12 +31,12 @@ loop-i-preserved g c =
     let same : line ≡ line_at input i = ap (λ k. take k (drop at input)) bytes in
     let s = state_of g.S.Store.words c.loop-i.index in
     let short = line_short o line (i + 1) s in
-    let said = c.answer-line-code.ensures in
-    let code = c.answer-line-code.result.0 in
+    let said = c.answer_line-code.ensures in
+    let code = c.answer_line-code.result.0 in
     run_more o input (state_of g.S.Store.words c.args.index.now) c.args.output.now i s c.loop-i.output
-    c.loop-i.invariant line code c.answer-line-code.result.1 _ _ same
+    c.loop-i.invariant line code c.answer_line-code.result.1 _ _ same
     (record { code = said.code; figure = said.figure; state = said.state })
-    (omega (arith, said.code)) (omega arith) (omega arith) c.put-answer.ensures
+    (omega (arith, said.code)) (omega arith) (omega arith) c.put_answer.ensures
 
 pub returns : goal.returns
 returns g c =
