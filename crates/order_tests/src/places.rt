@@ -45,7 +45,7 @@ fn a_name_comes_back_from_its_key(rt: HostRuntime) -> Result<(), Fail> {
     let Some(name) = place_name(key) else {
         return Err(Fail::new("the key of a name is no place"));
     };
-    assert_eq!(rt; name.bytes(), b"ABCDEFGHI");
+    assert_eq!(rt; name.bytes(), b"ABCDEFGHI".as_slice());
     Ok(())
 }
 

@@ -26,9 +26,9 @@ fn page(level: u64) -> PageBuf {
 #[test]
 fn words_of_a_leaf(rt: HostRuntime) {
     let words = page_words(&page(0));
-    assert_eq!(rt; &words[0..10], &[1, 0, 2, 4, 1, 5, 5, 0, 0, 0]);
-    assert_eq!(rt; &words[10..16], &[5, 6, 7, 8, 9, 10]);
-    assert_eq!(rt; &words[16..64], &[0; 48]);
+    assert_eq!(rt; &words[0..10], [1, 0, 2, 4, 1, 5, 5, 0, 0, 0].as_slice());
+    assert_eq!(rt; &words[10..16], [5, 6, 7, 8, 9, 10].as_slice());
+    assert_eq!(rt; &words[16..64], [0; 48].as_slice());
 }
 
 #[test]
@@ -68,5 +68,5 @@ fn words_of_page_0(rt: HostRuntime) {
         free: 2,
         root: 1,
     });
-    assert_eq!(rt; &words[0..6], &[3, 9, 18, 2, 1, 0]);
+    assert_eq!(rt; &words[0..6], [3, 9, 18, 2, 1, 0].as_slice());
 }

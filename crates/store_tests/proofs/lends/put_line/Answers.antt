@@ -6,7 +6,7 @@ pub returns : goal.returns
 returns c =
     let at = c.args.at in
     record {
-      said = λ form. let same = c.open-store.ensures.in-form form in cc;
+      said = λ form. let same = c.open-store.ensures.in_form form in cc;
       refused = λ none.
           c.write.ensures.said
           ∙ ap (λ (words : List ℕ). ltb at (length words)) (c.open-store.ensures.others none)
