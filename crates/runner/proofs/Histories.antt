@@ -1,8 +1,8 @@
 -- Every run from before its index is made is a history, with the reference beside it.
-use Rattle.std.proofs.Common.{◌≡◌, ℕ, zero, suc, ◌<◌, Bool, true, false, cond, eqb, ltb, ◌⊎◌, List, [], ◌∷◌, length, Some, None, Option, sym, refl, ap, ◌∙◌, subst, inl, inr}
+use Rattle.std.proofs.Common.{◌≡◌, ℕ, zero, suc, true, false, eqb, ltb, ◌⊎◌, List, [], ◌∷◌, length, Some, None, Option, sym, refl, ap, ◌∙◌, subst, inl, inr}
 use Rattle.std.proofs.lemmas.Bool.{cases_Bool, cond-true, cond-false, cond_both, true≢false, both_ways, eqb-true}
 use Rattle.model.specs.Answers.{code}
-use Rattle.model.specs.CallPromises.{Called, FormatCalled}
+use Rattle.model.specs.CallPromises.{Called}
 use Rattle.model.specs.Calls.{Call, step}
 use Rattle.model.specs.Entries.{KeyOrder}
 use Rattle.model.specs.Histories.{Pair, Starts, both, after}
@@ -13,9 +13,9 @@ use Rattle.model.specs.States.{State, Outcome}
 use Rattle.model.proofs.CallPromises.{called, format_called}
 use Rattle.runner.specs.declared.lines.Request.{Request}
 use Rattle.runner.specs.Lines.{request_of}
-use Rattle.runner.specs.Runs.{Asked, makes, calls, asked_by, is_made, is_due, step_of, Reply, done, unrun, reply_to}
+use Rattle.runner.specs.Runs.{Asked, makes, calls, asked_by, is_made, is_due, step_of, Reply, done, reply_to}
 use Rattle.runner.specs.Runs.{line_step, line_at, state_at, reply_at}
-use Rattle.runner.specs.RunPromises.{both_run, both_after, pair_at, CallKept, Kept, LineKept, RunKept}
+use Rattle.runner.specs.RunPromises.{both_run, both_after, pair_at, Kept, LineKept, RunKept}
 
 -- a format that does not answer 20 changes nothing
 format_refused : (fill : ℕ) (s : State) → eqb (code (format fill s).answer) 20 ≡ false → (format fill s).after ≡ s

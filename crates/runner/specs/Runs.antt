@@ -1,5 +1,5 @@
 -- What call lines do to an index, one after another, and what they are answered.
-use Rattle.std.specs.Prelude.{ℕ, zero, suc, ◌+◌, ◌*◌, Bool, cond, not, List, [], ◌++◌, take, drop, Some, None, Option, nat_lt}
+use Rattle.std.specs.Prelude.{ℕ, zero, suc, ◌*◌, Bool, cond, not, List, [], ◌++◌, take, drop, Some, None, Option, nat_lt}
 use Rattle.model.specs.Answers as answers
 use Rattle.model.specs.CallPromises.{Called, FormatCalled}
 use Rattle.model.specs.Calls.{Call, begin, turn, withdraw, post, merge, raise, sweep, step}
