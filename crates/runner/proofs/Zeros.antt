@@ -1,6 +1,6 @@
 -- A text of zeros.
 use Rattle.std.proofs.Common.{◌≡◌, ℕ, zero, suc, ◌+◌, ◌*◌, ◌/◌, ◌≤◌, List, [], length, replicate, sym, refl, ap, ◌∙◌, subst, arith, lit<}
-use Rattle.std.specs.List.{AllByRecursion as All}
+use Rattle.std.specs.List.{AllByRecursion}
 use Rattle.std.proofs.lemmas.List.{flat_map_more, length-append, replicate_more}
 use Rattle.store.specs.Overlay.{overlay}
 use Rattle.store.specs.Text.{word_line, text_of, InForm, words_in, Small}
@@ -26,7 +26,7 @@ zeros_more text i room =
     ∙ ap (overlay text 0)
     (flat_map_more word_line [] (replicate i 0) 0 ∙ ap (λ ws. text_of ws) (replicate_more i 0))
 
-zeros_small : (n : ℕ) → All Small (replicate n 0)
+zeros_small : (n : ℕ) → AllByRecursion Small (replicate n 0)
 zeros_small zero = tt
 zeros_small (suc n) = (lit< tt, zeros_small n)
 

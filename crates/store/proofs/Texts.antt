@@ -1,6 +1,6 @@
 -- Words as text: a line, and the text that lines make.
 use Rattle.std.proofs.Common.{◌≡◌, ℕ, zero, suc, ◌+◌, ◌-◌, ◌*◌, ◌/◌, ◌^◌, ◌<◌, ◌≤◌, min, Bool, true, false, cond, eqb, List, [], ◌∷◌, ◌++◌, map, length, get_or, take, drop, is_some, Some, None, decimal, Option, sym, refl, ap, ◌∙◌, inl, inr, arith}
-use Rattle.std.specs.List.{range_with_len, AllByRecursion as All}
+use Rattle.std.specs.List.{range_with_len, AllByRecursion}
 use Rattle.std.proofs.lemmas.List.{length-append, length-take, length-drop, take_at, drop_at, drop-drop, take-append-drop, take_all, drop_all}
 use Rattle.std.proofs.lemmas.List.FromFn.{length-map-range_with_len, get_or-map-range_with_len, fill_by_all}
 use Rattle.std.proofs.ByRecursion.{All-get_or, All-from_get_or}
@@ -141,14 +141,14 @@ fault_in_form bytes i h fault form = false≢true (sym fault ∙ form i h)
 -- FROM WORDS TO TEXT AND BACK
 
 -- each word takes 21 bytes of its text
-length_text : (words : List ℕ) → All Small words → length (text_of words) ≡ 21 * length words
+length_text : (words : List ℕ) → AllByRecursion Small words → length (text_of words) ≡ 21 * length words
 length_text [] small = refl
 length_text (w ∷ words) small =
     let l = length-append (word_line w) (text_of words) in
     omega (arith, length_word_line w small.0, length_text words small.1)
 
 -- the line i of the text of words is that of the word i
-text_line : (words : List ℕ) → All Small words → (i : ℕ) → i < length words
+text_line : (words : List ℕ) → AllByRecursion Small words → (i : ℕ) → i < length words
     → line_at (text_of words) i ≡ word_line (get_or words i 0)
 unfolding run
 text_line [] small i h = absurd (omega arith)
@@ -162,13 +162,13 @@ text_line (w ∷ words) small (suc i) h =
     ap (take 21) behind ∙ text_line words small.1 i (omega arith)
 
 -- so it is read back
-text_word : (words : List ℕ) → All Small words → (i : ℕ) → i < length words
+text_word : (words : List ℕ) → AllByRecursion Small words → (i : ℕ) → i < length words
     → line_word (line_at (text_of words) i) ≡ Some (get_or words i 0)
 text_word words small i h =
     ap line_word (text_line words small i h) ∙ line_word_lem (get_or words i 0) (All-get_or Small words i 0 h small)
 
 -- from words to text and back
-text_back : (words : List ℕ) → All Small words → InForm (text_of words) × (words_in (text_of words) ≡ words)
+text_back : (words : List ℕ) → AllByRecursion Small words → InForm (text_of words) × (words_in (text_of words) ≡ words)
 unfolding words_to
 text_back words small =
     let l = length_text words small in
@@ -201,7 +201,7 @@ text_from bytes (suc n) i l lines =
     cc
 
 -- from text to words and back
-text_only : (bytes : List ℕ) → InForm bytes → (text_of (words_in bytes) ≡ bytes) × All Small (words_in bytes)
+text_only : (bytes : List ℕ) → InForm bytes → (text_of (words_in bytes) ≡ bytes) × AllByRecursion Small (words_in bytes)
 unfolding words_to
 text_only bytes form =
     let n = length bytes / 21 in

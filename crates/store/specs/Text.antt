@@ -1,6 +1,6 @@
 -- Words as text: each word is a line of 21 bytes, the word at the right of 20 bytes and a newline.
 use Rattle.std.specs.Prelude.{◌≡◌, ℕ, ◌*◌, ◌/◌, ◌^◌, ◌<◌, Bool, true, List, [], ◌∷◌, map, length, is_some, Some, None, Option}
-use Rattle.std.specs.List.{range_with_len, flat_map, AllByRecursion as All}
+use Rattle.std.specs.List.{range_with_len, flat_map, AllByRecursion}
 use Rattle.store.specs.Columns.{line_of, line_numbers}
 use Rattle.store.specs.Overlay.{run}
 
@@ -62,5 +62,5 @@ Small word = word < 2 ^ 64
 -- each list of words has one text in form, and each text in form is that of one list of words
 abbrev pub OneTextForm : Type 0
 OneTextForm =
-    ((words : List ℕ) → All Small words → InForm (text_of words) × (words_in (text_of words) ≡ words)) ×
-    ((bytes : List ℕ) → InForm bytes → (text_of (words_in bytes) ≡ bytes) × All Small (words_in bytes))
+    ((words : List ℕ) → AllByRecursion Small words → InForm (text_of words) × (words_in (text_of words) ≡ words)) ×
+    ((bytes : List ℕ) → InForm bytes → (text_of (words_in bytes) ≡ bytes) × AllByRecursion Small (words_in bytes))
