@@ -2,7 +2,7 @@
 use Rattle.std.proofs.Common.{◌≡◌, ℕ, ◌+◌, ◌*◌, ◌/◌, ◌<◌, true, eqb, ltb, length, get_or, sym, ap, ◌∙◌, arith}
 use Rattle.std.proofs.lemmas.Bool.{cond-true, and_from, lt-ltb, le-leb}
 use Rattle.std.proofs.lemmas.Bool.Decides.{nat_tests}
-use Rattle.page.specs.Pages.{state_of as stateIn, Page, page_at}
+use Rattle.page.specs.Pages.{state_of as state_in, Page, page_at}
 use Rattle.page.proofs.Layouts.{word_run}
 use Rattle.model.specs.States.{State, view, nowhere, is_free}
 use Rattle.index.specs.Indexes.{is_page}
@@ -15,10 +15,10 @@ page_there s p above below within =
     (le-leb (64 * p + 64) (length s.words) (omega arith)))
 
 -- the state of a page is in its word 0
-pub state_word_lem : (s : State) (p : ℕ) → is_page s p ≡ true → (view s p).state ≡ stateIn (get_or s.words (64 * p) 0)
+pub state_word_lem : (s : State) (p : ℕ) → is_page s p ≡ true → (view s p).state ≡ state_in (get_or s.words (64 * p) 0)
 state_word_lem s p here =
     ap (λ (x : Page). x.state) (cond-true (is_page s p) (page_at s.words p) nowhere here)
-    ∙ ap stateIn (word_run s.words p 0 (omega arith) ∙ ap (λ i. get_or s.words i 0) (omega arith))
+    ∙ ap state_in (word_run s.words p 0 (omega arith) ∙ ap (λ i. get_or s.words i 0) (omega arith))
 
 -- and its link in word 3
 pub link_word : (s : State) (p : ℕ) → is_page s p ≡ true → (view s p).link ≡ get_or s.words (64 * p + 3) 0
@@ -26,10 +26,10 @@ link_word s p here =
     ap (λ (x : Page). x.link) (cond-true (is_page s p) (page_at s.words p) nowhere here)
     ∙ word_run s.words p 3 (omega arith)
 
-free_word : (w : ℕ) → is_free (stateIn w) ≡ eqb w 0
+free_word : (w : ℕ) → is_free (state_in w) ≡ eqb w 0
 free_word w = grind (arith, nat_tests)
 
 -- a page is free where word 0 is 0
 pub free_at : (s : State) (p v : ℕ) → is_page s p ≡ true → v ≡ get_or s.words (64 * p) 0
     → is_free (view s p).state ≡ eqb v 0
-free_at s p v here e = ap is_free (state_word_lem s p here ∙ ap stateIn (sym e)) ∙ free_word v
+free_at s p v here e = ap is_free (state_word_lem s p here ∙ ap state_in (sym e)) ∙ free_word v

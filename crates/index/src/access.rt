@@ -4,7 +4,7 @@ ghost use Rattle.order.specs.Refusals.{JustWhere};
 ghost use Rattle.page.specs.Buffers.{page_of};
 ghost use Rattle.page.specs.Pages.{is_there};
 ghost use Rattle.model.specs.States.{view, write, write_head, readable, free_head, free_page, is_free};
-ghost use Rattle.model.specs.States.{root as rootOf};
+ghost use Rattle.model.specs.States.{root as root_of};
 ghost use Rattle.index.specs.Indexes.{state_of, is_page};
 
 use crate::index::Index;
@@ -35,7 +35,7 @@ fn is_readable(page: &PageBuf, fill: u64) -> bool
 impl<S: Store, O: Order> Index<S, O> {
     // The root, which is 0 before the index is made.
     pub(crate) fn root(&self) -> u64
-        ensures { result ≡ rootOf (state_of S.words self.now) }
+        ensures { result ≡ root_of (state_of S.words self.now) }
     {
         if self.pages > 0 && self.store.length() >= 64 {
             read_root(&self.store)

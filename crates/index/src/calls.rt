@@ -1,7 +1,7 @@
 //! The calls of an index. Each answers a code and a figure, and a refusal changes nothing.
 ghost use Rattle.model.specs.CallPromises.{AttachCalled, Called, EndsAlone, FormatCalled};
-ghost use Rattle.model.specs.Calls.{begin as beginCall, turn as turnCall, withdraw as withdrawCall};
-ghost use Rattle.model.specs.Calls.{post as postCall, merge as mergeCall, raise as raiseCall, sweep as sweepCall};
+ghost use Rattle.model.specs.Calls.{begin as begin_call, turn as turn_call, withdraw as withdraw_call};
+ghost use Rattle.model.specs.Calls.{post as post_call, merge as merge_call, raise as raise_call, sweep as sweep_call};
 ghost use Rattle.index.specs.Indexes.{state_of, rule_of};
 
 use crate::index::Index;
@@ -30,7 +30,7 @@ impl<S: Store, O: Order> Index<S, O> {
     /// Gives a console a job of a kind (1 look, 2 enter, 3 strike) for a key and a value; it stands on the root. 20.
     /// Refused: 4 no such console, 5 it has a job, 7 no such kind or no key.
     pub fn begin(&mut self, console: u64, kind: u64, key: Key, value: u64) -> (u64, u64)
-        ensures { Called (rule_of O.keyed O.compared) (beginCall console kind key value)
+        ensures { Called (rule_of O.keyed O.compared) (begin_call console kind key value)
             (state_of S.words self.old) result.0 result.1 (state_of S.words self.new) }
     {
         self.begin_step(console, kind, key, value).pair()
@@ -41,7 +41,7 @@ impl<S: Store, O: Order> Index<S, O> {
     /// none, 25 entered, 26 this value is held already, 27 struck this value.
     /// Refused: 4 no such console, 6 it has no job, 8 this page is not what it should be, 9 no page is free.
     pub fn turn(&mut self, console: u64) -> (u64, u64)
-        ensures called { Called (rule_of O.keyed O.compared) (turnCall console) (state_of S.words self.old)
+        ensures called { Called (rule_of O.keyed O.compared) (turn_call console) (state_of S.words self.old)
             result.0 result.1 (state_of S.words self.new) }
         ensures alone { EndsAlone (rule_of O.keyed O.compared) console (state_of S.words self.old) }
     {
@@ -51,7 +51,7 @@ impl<S: Store, O: Order> Index<S, O> {
     /// Drops a console's job. 28 with the page on which it stood.
     /// Refused: 4 no such console, 6 it has no job.
     pub fn withdraw(&mut self, console: u64) -> (u64, u64)
-        ensures { Called (rule_of O.keyed O.compared) (withdrawCall console) (state_of S.words self.old)
+        ensures { Called (rule_of O.keyed O.compared) (withdraw_call console) (state_of S.words self.old)
             result.0 result.1 (state_of S.words self.new) }
     {
         self.withdraw_step(console).pair()
@@ -61,7 +61,7 @@ impl<S: Store, O: Order> Index<S, O> {
     /// it; 22 with the new page where the page is full and is split instead.
     /// Refused: 10 no such inner page, 8 this child is wrong, 11 nothing to do, 9 no page is free.
     pub fn post(&mut self, page: u64) -> (u64, u64)
-        ensures { Called (rule_of O.keyed O.compared) (postCall page) (state_of S.words self.old)
+        ensures { Called (rule_of O.keyed O.compared) (post_call page) (state_of S.words self.old)
             result.0 result.1 (state_of S.words self.new) }
     {
         self.post_step(page).pair()
@@ -70,7 +70,7 @@ impl<S: Store, O: Order> Index<S, O> {
     /// Joins the first two small neighbours under an inner page. 30 with the page that is gone now.
     /// Refused: 10 no such inner page, 8 this child is wrong, 11 nothing to do.
     pub fn merge(&mut self, page: u64) -> (u64, u64)
-        ensures { Called (rule_of O.keyed O.compared) (mergeCall page) (state_of S.words self.old)
+        ensures { Called (rule_of O.keyed O.compared) (merge_call page) (state_of S.words self.old)
             result.0 result.1 (state_of S.words self.new) }
     {
         self.merge_step(page).pair()
@@ -79,7 +79,7 @@ impl<S: Store, O: Order> Index<S, O> {
     /// Puts a new root over a root that has a right neighbour. 31 with it.
     /// Refused: 8 the root is wrong, 11 it has no neighbour, 9 no page is free.
     pub fn raise(&mut self) -> (u64, u64)
-        ensures { Called (rule_of O.keyed O.compared) raiseCall (state_of S.words self.old)
+        ensures { Called (rule_of O.keyed O.compared) raise_call (state_of S.words self.old)
             result.0 result.1 (state_of S.words self.new) }
     {
         self.raise_step().pair()
@@ -88,7 +88,7 @@ impl<S: Store, O: Order> Index<S, O> {
     /// Frees every gone page on which no job stands and to which no gone page points. 32 with their number.
     /// Refused: 11 there is none.
     pub fn sweep(&mut self) -> (u64, u64)
-        ensures { Called (rule_of O.keyed O.compared) sweepCall (state_of S.words self.old)
+        ensures { Called (rule_of O.keyed O.compared) sweep_call (state_of S.words self.old)
             result.0 result.1 (state_of S.words self.new) }
     {
         self.sweep_step().pair()

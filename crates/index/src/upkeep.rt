@@ -6,7 +6,7 @@ ghost use Rattle.page.specs.Entries.{list_of};
 ghost use Rattle.page.specs.Pages.{bound_key};
 ghost use Rattle.model.specs.States.{view, readable};
 ghost use Rattle.model.specs.Upkeep.{is_inner, is_child, wrong_child};
-ghost use Rattle.model.specs.Upkeep.{is_small, merge_pair, joined as joinedPage, gone_into, child_at, entry_out};
+ghost use Rattle.model.specs.Upkeep.{is_small, merge_pair, joined as joined_page, gone_into, child_at, entry_out};
 ghost use Rattle.model.specs.Upkeep.{merge_at, merge};
 ghost use Rattle.model.specs.Upkeep.{entry_in, following, ends_short, short_child, post_at, post};
 ghost use Rattle.model.specs.Turns.{with_entries};
@@ -38,7 +38,7 @@ fn takes_next(fill: u64, left: &PageBuf, next: u64, right: &PageBuf) -> bool
 // The left page with the right one's entries, neighbour and end.
 fn joined(left: &PageBuf, right: &PageBuf) -> PageBuf
     requires { length (list_of left.now.entries) + length (list_of right.now.entries) ≤ 18 }
-    ensures { page_of result ≡ joinedPage (page_of left.now) (page_of right.now) }
+    ensures { page_of result ≡ joined_page (page_of left.now) (page_of right.now) }
 {
     let mut joined = PageBuf {
         link: right.link,

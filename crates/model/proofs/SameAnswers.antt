@@ -146,14 +146,14 @@ module _ {o : KeyOrder} (laws : Lawful o.keyed o.compared) where
         (does_leads k es fs done (known r start cs).sorted kk does)
 
     -- two histories with the same jobs of each key
-    module _ (r q : Pair) (startR : Starts r) (startQ : Starts q) (cs ds : List Call)
+    module _ (r q : Pair) (start_r : Starts r) (start_q : Starts q) (cs ds : List Call)
         (same : SameJobs o (finished_in o cs r) (finished_in o ds q)) where
       same_of_key : (k : Key) → IsKey o k
           → (answers_of (of_key o k (finished_in o cs r)) ≡ answers_of (of_key o k (finished_in o ds q)))
           × (entry_at o k (after o cs r).reference.entries ≡ entry_at o k (after o ds q).reference.entries)
       same_of_key k kk =
-          let one = history_leads r startR k kk cs in
-          let two = history_leads q startQ k kk ds in
+          let one = history_leads r start_r k kk cs in
+          let two = history_leads q start_q k kk ds in
           let jobs = of_key o k (finished_in o cs r) in
           let others = of_key o k (finished_in o ds q) in
           let told = same_told None jobs others (same k kk) one.told two.told in
@@ -161,8 +161,8 @@ module _ {o : KeyOrder} (laws : Lawful o.keyed o.compared) where
 
       same_entries : entries_of (after o cs r).state ≡ entries_of (after o ds q).state
       same_entries =
-          let one = known r startR cs in
-          let two = known q startQ ds in
+          let one = known r start_r cs in
+          let two = known q start_q ds in
           let es = (after o cs r).reference.entries in
           let fs = (after o ds q).reference.entries in
           let equal = entries_same laws es fs one.sorted two.sorted (λ k kk. (same_of_key k kk).1) in
@@ -186,8 +186,8 @@ answering o laws r start cs =
 
 -- the same jobs have the same answers, in every two histories
 pub same_answers : SameJobsSameAnswers
-same_answers o laws r q startR startQ cs ds same =
+same_answers o laws r q start_r start_q cs ds same =
     let known = answering o laws in (
-      λ k kk. (same_of_key laws known r q startR startQ cs ds same k kk).0,
-      same_entries laws known r q startR startQ cs ds same,
+      λ k kk. (same_of_key laws known r q start_r start_q cs ds same k kk).0,
+      same_entries laws known r q start_r start_q cs ds same,
     )

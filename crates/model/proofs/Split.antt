@@ -203,7 +203,7 @@ module _ (fill : ℕ) (f : ℕ → Page) (p n : ℕ) (can : Splits fill f p n) w
     -- the tree after the split
     pub split_tree : Tree o fill root (after_split fill f p n)
     split_tree =
-        let rootKept = split_keeps_live root t.root_live in
+        let root_kept = split_keeps_live root t.root_live in
         record {
           live = each (λ q y. y.state ≡ Live → LiveOk o fill g y) (λ _. lower_ok) (λ _. upper_ok)
               (λ q qp qn live. live_kept o f g split_keeps_live fill (f q) (t.live q live));
@@ -212,9 +212,9 @@ module _ (fill : ℕ) (f : ℕ → Page) (p n : ℕ) (can : Splits fill f p n) w
               (λ gone. absurd (live_not_gone can.live gone))
               (λ gone. absurd (live_not_gone refl gone))
               (λ q qp qn gone. gone_kept o f g (f q) (split_keeps_held (f q).link) (t.gone q gone));
-          root_live = rootKept.0;
-          root_start = rootKept.2 ∙ t.root_start;
-          root_top = subst (λ top. (q : ℕ) → has_form (g q).state ≡ true → (g q).level ≤ top) (sym rootKept.1)
+          root_live = root_kept.0;
+          root_start = root_kept.2 ∙ t.root_start;
+          root_top = subst (λ top. (q : ℕ) → has_form (g q).state ≡ true → (g q).level ≤ top) (sym root_kept.1)
               (each (λ q y. has_form y.state ≡ true → y.level ≤ (f root).level) (t.root_top p)
               (λ _. t.root_top p (live_held can.live)) (λ q qp qn. t.root_top q));
           zero = each (λ q y. q ≡ 0 → has_form y.state ≡ false)

@@ -50,10 +50,12 @@ fn load<S: Store>(store: &S, page: u64) -> Option<[u64; PAGE_WORDS]>
     ensures { JustWhere (is_there (S.words store.now) page)
         (λ ws. ws ≡ page_run (S.words store.now) page) result }
 {
-    let place = place_of(store, page)?;
+    let Some(place) = place_of(store, page) else {
+        return None;
+    };
     let mut loaded = [0; PAGE_WORDS];
-    for (i, word) in loaded.iter_mut().enumerate() {
-        *word = store.read(place + i as u64)?;
+    for i in 0..PAGE_WORDS {
+        loaded[i] = store.read(place + i as u64)?;
     }
     Some(loaded)
 }
@@ -68,8 +70,8 @@ fn save<S: Store>(store: &mut S, page: u64, from: &[u64]) -> bool
     let Some(place) = place_of(store, page) else {
         return false;
     };
-    for (i, word) in from.iter().enumerate() {
-        store.write(place + i as u64, *word);
+    for i in 0..PAGE_WORDS {
+        store.write(place + i as u64, from[i]);
     }
     true
 }

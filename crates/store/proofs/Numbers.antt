@@ -8,7 +8,7 @@ use Rattle.std.proofs.lemmas.Bool.{cases_lt, and_parts, ne_eqb, eqb-true, cond_b
 use Rattle.std.proofs.lemmas.Bool.Decides.{nat_tests}
 use Rattle.store.specs.Columns.{column, fits_column, trimmed, read_on, plain_front, are_digits, is_column, column_number}
 
--- `allDigits` tells the numerals, and `read_on 0` is their number
+-- `all_ascii_digits` tells the numerals, and `read_on 0` is their number
 pub own : IsNumeralModel (λ ds. all_ascii_digits ds ≡ true) (read_on 0)
 own = numerals_by_fold _ (search rules) read_on (search rules)
 
