@@ -27,14 +27,14 @@ module _ (o : KeyOrder) (laws : Laws o) (c : Call) (before next : State)
 
   like_reference : (a : Answer) (number shown : ℕ) → a ≡ (step o c before).answer → number ≡ code a → shown ≡ figure a
       → LikeReference o c before number shown next
-  like_reference a number shown answered is_code is-figure r start cs e =
+  like_reference a number shown answered is_code is_figure r start cs e =
       let p = after o cs r in
       let same : (step o c p.state).answer ≡ a = ap (λ (s : State). (step o c s).answer) e ∙ sym answered in
       let h = answers_as_reference o laws r start cs c in
       subst (λ (s : State). AsReference o c p number shown s) (then_after r cs e)
       (subst (λ (n : ℕ). AsReference o c p n shown (step o c p.state).after) (ap code same ∙ sym is_code)
       (subst (λ (n : ℕ). AsReference o c p (code (step o c p.state).answer) n (step o c p.state).after)
-      (ap figure same ∙ sym is-figure) h))
+      (ap figure same ∙ sym is_figure) h))
 
   like_others : LikeOthers o c before next
   like_others r q startR startQ cs ds e same =
@@ -48,12 +48,12 @@ module _ (o : KeyOrder) (laws : Laws o) (c : Call) (before next : State)
   -- all of it, for a call that takes its step
   pub called : (a : Answer) (number shown : ℕ) → a ≡ (step o c before).answer → number ≡ code a → shown ≡ figure a
       → Called o c before number shown next
-  called a number shown answered is_code is-figure =
+  called a number shown answered is_code is_figure =
       record {
         coded = is_code ∙ ap code answered;
-        figured = is-figure ∙ ap figure answered;
+        figured = is_figure ∙ ap figure answered;
         state = stepped;
-        reference = like_reference a number shown answered is_code is-figure;
+        reference = like_reference a number shown answered is_code is_figure;
         others = like_others;
         sound = sound_then;
       }
@@ -98,10 +98,10 @@ format_starts fill before made20 = elim (cases_lt (length before.words) 128) [
 pub format_called : (fill : ℕ) (before next : State) → next ≡ (format fill before).after
     → (a : Answer) (number shown : ℕ) → a ≡ (format fill before).answer → number ≡ code a → shown ≡ figure a
     → FormatCalled fill before number shown next
-format_called fill before next stepped a number shown answered is_code is-figure =
+format_called fill before next stepped a number shown answered is_code is_figure =
     record {
       coded = is_code ∙ ap code answered;
-      figured = is-figure ∙ ap figure answered;
+      figured = is_figure ∙ ap figure answered;
       state = stepped;
       starts = λ twenty. subst (λ (s : State). Starts (record { state = s; reference = empty })) (sym stepped)
           (format_starts fill before (sym (is_code ∙ ap code answered) ∙ twenty));

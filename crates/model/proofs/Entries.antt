@@ -191,7 +191,7 @@ module _ {o : KeyOrder} (laws : Lawful o.keyed o.compared) where
   sorted_same (x ∷ xs) [] sx sy into back = absurd (into x (inl refl))
   sorted_same (x ∷ xs) (y ∷ ys) sx sy into back =
       let first = same_first x y xs ys sx sy (into x (inl refl)) (back y (inl refl)) in
-      let tails-into = later_in x y xs ys first sx into in
-      let tails-back = later_in y x ys xs (sym first) sy back in
-      let rest = sorted_same xs ys sx.2 sy.2 tails-into tails-back in
+      let tails_into = later_in x y xs ys first sx into in
+      let tails_back = later_in y x ys xs (sym first) sy back in
+      let rest = sorted_same xs ys sx.2 sy.2 tails_into tails_back in
       cc

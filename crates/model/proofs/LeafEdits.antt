@@ -136,17 +136,17 @@ module _ {o : KeyOrder} (laws : Lawful o.keyed o.compared)
         → ((d : Entry) → In d es' → (d ≡ e) ⊎ In d r.entries)
         → In e es' → ((d : Entry) → In d r.entries → In d es')
         → Agrees o (edited f p es) js (record { entries = es'; tasks = r.tasks })
-    enter_agrees e es es' sorted in-es new old in-es' new' old' =
+    enter_agrees e es es' sorted in_es new old in_es' new' old' =
         edit_agrees es es' sorted into (λ d i out. old' d i) back
       where
         into : (d : Entry) → In d es → In d es'
-        into d i = elim (in-es d i) [
+        into d i = elim (in_es d i) [
           | inl q ↦ subst (λ (x : Entry). In x es') (sym q) new'
           | inr h ↦ old' d (a.into p d live leaf h)
         ]
 
         back : (d : Entry) → In d es' → In d es ⊎ (In d r.entries × (Covers o (f p) d.key → ⊥))
-        back d i = elim (in-es' d i) [
+        back d i = elim (in_es' d i) [
           | inl q ↦ inl (subst (λ (x : Entry). In x es) (sym q) new)
           | inr h ↦ elim (place d h) [ inl here ↦ inl (old d here) | inr out ↦ inr (h, out) ]
         ]
@@ -158,12 +158,12 @@ module _ {o : KeyOrder} (laws : Lawful o.keyed o.compared)
         → ((d : Entry) → In d es' → In d r.entries × (o.compared d.key k ≡ Same → ⊥))
         → ((d : Entry) → In d r.entries → (o.compared d.key k ≡ Same → ⊥) → In d es')
         → Agrees o (edited f p es) js (record { entries = es'; tasks = r.tasks })
-    strike_agrees k kk c es es' sorted in-es old in-es' old' = edit_agrees es es' sorted
-        (λ d i. let h = in-es d i in old' d (a.into p d live leaf h.0) h.1)
+    strike_agrees k kk c es es' sorted in_es old in_es' old' = edit_agrees es es' sorted
+        (λ d i. let h = in_es d i in old' d (a.into p d live leaf h.0) h.1)
         (λ d i out. old' d i (λ same. out (same_covered k kk c d i same)))
         back
       where
         back : (d : Entry) → In d es' → In d es ⊎ (In d r.entries × (Covers o (f p) d.key → ⊥))
         back d i =
-            let h = in-es' d i in
+            let h = in_es' d i in
             elim (place d h.0) [ inl here ↦ inl (old d here h.1) | inr out ↦ inr (h.0, out) ]

@@ -127,14 +127,14 @@ module _ {o : KeyOrder} (laws : Lawful o.keyed o.compared) where
 
     left_covered : LeafOk o x → (e : Entry) → In e x.entries → Covers o (joined x y) e.key
     left_covered h e i =
-        let in-x = all_in (λ e. Covers o x e.key) x.entries e h.inside i in
-        record { from = in-x.from; to = left_before e.key (sorted_key o x.entries e h.sorted i) in-x.to }
+        let in_x = all_in (λ e. Covers o x e.key) x.entries e h.inside i in
+        record { from = in_x.from; to = left_before e.key (sorted_key o x.entries e h.sorted i) in_x.to }
 
     right_covered : LeafOk o y → (e : Entry) → In e y.entries → Covers o (joined x y) e.key
     right_covered h e i =
-        let in-y = all_in (λ e. Covers o y e.key) y.entries e h.inside i in
-        let after = right_after e.key (sorted_key o y.entries e h.sorted i) in-y.from in
-        record { from = under_is_upto o (start_of x) (at e.key) after; to = in-y.to }
+        let in_y = all_in (λ e. Covers o y e.key) y.entries e h.inside i in
+        let after = right_after e.key (sorted_key o y.entries e h.sorted i) in_y.from in
+        record { from = under_is_upto o (start_of x) (at e.key) after; to = in_y.to }
 
     -- two leaves in one
     pub joined_leaf : LeafOk o x → LeafOk o y → LeafOk o (joined x y)

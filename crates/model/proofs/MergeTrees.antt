@@ -166,9 +166,9 @@ module _ {o : KeyOrder} (laws : Lawful o.keyed o.compared) (fill root : ℕ) (f 
   apart_joined : (q : ℕ) → q ≢ a → q ≢ b → (f q).state ≡ Live → (f q).level ≡ (f a).level
       → Apart o (joined (f a) (f b)) (f q)
   apart_joined q na nb lq level =
-      let q-ok = t.live q lq in
+      let q_ok = t.live q lq in
       apart_both laws (start_of (f a)) (start_of (f b)) (end_of (f b)) (start_of (f q)) (end_of (f q))
-      a_ok.start_key b_ok.start_key b_ok.end_key q-ok.start_key q-ok.end_key q-ok.rises
+      a_ok.start_key b_ok.start_key b_ok.end_key q_ok.start_key q_ok.end_key q_ok.rises
       (subst (λ v. UpTo o v (start_of (f q)) ⊎ UpTo o (end_of (f q)) (start_of (f a))) meeting.meets
       (t.apart a q c.a_live lq (sym level) (λ e. na (sym e))))
       (t.apart b q c.b_live lq (same_level ∙ sym level) (λ e. nb (sym e)))

@@ -140,13 +140,13 @@ module _ (n fill : ℕ) (w : List ℕ) (least : 2 ≤ n) (room : 64 * n ≤ leng
     tree_new : Tree o fill (root new) (view new)
     tree_new =
         let one : (p : ℕ) → (view new p).state ≡ Live → p ≡ 1 = λ p live. held_one p (live_held live) in
-        let at-root : view new (root new) ≡ empty_leaf = at_one (root new) root_new in
+        let at_root : view new (root new) ≡ empty_leaf = at_one (root new) root_new in
         record {
           live = λ p live. subst (λ (x : Page). LiveOk o fill (view new) x) (sym (at_one p (one p live))) leaf_ok;
           apart = λ p q lp lq same ne. absurd (ne (one p lp ∙ sym (one q lq)));
           gone = λ p gone. let e = held_one p (gone_held gone) in let v = at_one p e in absurd (grind arith);
-          root_live = ap (λ (x : Page). x.state) at-root;
-          root_start = ap (λ (x : Page). x.start) at-root;
+          root_live = ap (λ (x : Page). x.state) at_root;
+          root_start = ap (λ (x : Page). x.start) at_root;
           root_top = λ p held. let v = at_one p (held_one p held) in
               subst (λ (x : Page). x.level ≤ (view new (root new)).level) (sym v) (omega arith);
           zero = refl;

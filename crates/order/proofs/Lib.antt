@@ -1,3 +1,4 @@
+pub mod Folding
 pub mod Names
 pub mod Padding
 pub mod Shelf

@@ -71,14 +71,14 @@ name_comes_back bs name =
 -- a key comes back from its text
 key_of_text : (k : Key) → k.hi < 2 ^ 64 → k.lo < 2 ^ 64 → key_of_name (text k) ≡ k
 unfolding text
-key_of_text k hi-fits lo-fits =
-    let hi = word_of_bytes k.hi hi-fits in
-    let lo = word_of_bytes k.lo lo-fits in
+key_of_text k hi_fits lo_fits =
+    let hi = word_of_bytes k.hi hi_fits in
+    let lo = word_of_bytes k.lo lo_fits in
     simp (hi, lo)
 
 -- each comes back from the other
 pub names_and_keys : NamesAndKeys
 names_and_keys = (
   λ bs name. let back = name_comes_back bs name in (ap is_name back ∙ name, back),
-  λ k hi-fits lo-fits place. (place, key_unpadded (text k) ∙ key_of_text k hi-fits lo-fits),
+  λ k hi_fits lo_fits place. (place, key_unpadded (text k) ∙ key_of_text k hi_fits lo_fits),
 )

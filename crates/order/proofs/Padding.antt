@@ -37,7 +37,7 @@ pub unpadded_front : (xs : List ℕ) → 0 < length xs → get_or xs (length xs 
     unpadded (take (length xs - 1) xs) ≡ unpadded xs
 unpadded_front xs some last =
     let parts = front_and_last xs some in
-    let zero-goes = unpadded_zero (take (length xs - 1) xs) in
+    let zero_goes = unpadded_zero (take (length xs - 1) xs) in
     cc
 
 -- a text whose last byte is not 0 is all kept
@@ -48,16 +48,16 @@ unpadded_whole xs some last =
     cc
 
 -- a 0 that goes reads as it did
-get_d_kept : (x : ℕ) (xs : List ℕ) (i : ℕ) → get_or (kept_before x xs) i 0 ≡ get_or (x ∷ xs) i 0
-get_d_kept x [] zero = grind (arith, nat_tests)
-get_d_kept x [] (suc i) = grind (arith, nat_tests)
-get_d_kept x (y ∷ ys) i = refl
+get_or_kept : (x : ℕ) (xs : List ℕ) (i : ℕ) → get_or (kept_before x xs) i 0 ≡ get_or (x ∷ xs) i 0
+get_or_kept x [] zero = grind (arith, nat_tests)
+get_or_kept x [] (suc i) = grind (arith, nat_tests)
+get_or_kept x (y ∷ ys) i = refl
 
 -- a byte past the end reads as 0, so trailing zeros can go
-get_d_unpadded : (xs : List ℕ) (i : ℕ) → get_or (unpadded xs) i 0 ≡ get_or xs i 0
-get_d_unpadded [] i = refl
-get_d_unpadded (x ∷ xs) zero = get_d_kept x (unpadded xs) zero
-get_d_unpadded (x ∷ xs) (suc i) = get_d_kept x (unpadded xs) (suc i) ∙ get_d_unpadded xs i
+get_or_unpadded : (xs : List ℕ) (i : ℕ) → get_or (unpadded xs) i 0 ≡ get_or xs i 0
+get_or_unpadded [] i = refl
+get_or_unpadded (x ∷ xs) zero = get_or_kept x (unpadded xs) zero
+get_or_unpadded (x ∷ xs) (suc i) = get_or_kept x (unpadded xs) (suc i) ∙ get_or_unpadded xs i
 
 -- one byte more in front
 front_kept : (x : ℕ) (xs ys : List ℕ) → take (length ys) xs ≡ ys →
@@ -81,12 +81,12 @@ unpadded_no_longer xs =
     omega arith
 
 -- a zero at the end reads like a byte past the end
-get_d_padded : (xs : List ℕ) (n i : ℕ) → get_or (xs ++ replicate n 0) i 0 ≡ get_or xs i 0
-get_d_padded [] zero i = refl
-get_d_padded [] (suc n) zero = refl
-get_d_padded [] (suc n) (suc i) = get_d_padded [] n i
-get_d_padded (x ∷ xs) n zero = refl
-get_d_padded (x ∷ xs) n (suc i) = get_d_padded xs n i
+get_or_padded : (xs : List ℕ) (n i : ℕ) → get_or (xs ++ replicate n 0) i 0 ≡ get_or xs i 0
+get_or_padded [] zero i = refl
+get_or_padded [] (suc n) zero = refl
+get_or_padded [] (suc n) (suc i) = get_or_padded [] n i
+get_or_padded (x ∷ xs) n zero = refl
+get_or_padded (x ∷ xs) n (suc i) = get_or_padded xs n i
 
 -- texts that read alike, past their ends too, have one key
 same_key : (xs ys : List ℕ) → ((i : ℕ) → get_or xs i 0 ≡ get_or ys i 0) → key_of_name xs ≡ key_of_name ys
@@ -94,7 +94,7 @@ same_key xs ys same = simp same
 
 -- so zeros at the end are nothing to a key
 pub key_unpadded : (xs : List ℕ) → key_of_name (unpadded xs) ≡ key_of_name xs
-key_unpadded xs = same_key (unpadded xs) xs (get_d_unpadded xs)
+key_unpadded xs = same_key (unpadded xs) xs (get_or_unpadded xs)
 
 pub key_padded : (xs : List ℕ) (n : ℕ) → key_of_name (xs ++ replicate n 0) ≡ key_of_name xs
-key_padded xs n = same_key (xs ++ replicate n 0) xs (get_d_padded xs n)
+key_padded xs n = same_key (xs ++ replicate n 0) xs (get_or_padded xs n)

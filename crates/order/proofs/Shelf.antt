@@ -24,45 +24,45 @@ module _ {keyed : Key → Bool} {compared : Key → Key → Comparison} (laws : 
   -- of two keys, not both stand before the other
   pub before_one_way : (a b : Key) → keyed a ≡ true → keyed b ≡ true →
       compared a b ≡ Before → compared b a ≡ Before → ⊥
-  before_one_way a b key-a key-b before back = grind arith
+  before_one_way a b key_a key_b before back = grind arith
 
   -- the two keys the other way round
   pub after_from_before : (a b : Key) → keyed a ≡ true → keyed b ≡ true →
       compared a b ≡ Before → compared b a ≡ After
-  after_from_before a b key-a key-b before = grind arith
+  after_from_before a b key_a key_b before = grind arith
 
   pub before_from_after : (a b : Key) → keyed a ≡ true → keyed b ≡ true →
       compared a b ≡ After → compared b a ≡ Before
-  before_from_after a b key-a key-b after = grind arith
+  before_from_after a b key_a key_b after = grind arith
 
   pub same_symmetric : (a b : Key) → keyed a ≡ true → keyed b ≡ true →
       compared a b ≡ Same → compared b a ≡ Same
-  same_symmetric a b key-a key-b same = grind arith
+  same_symmetric a b key_a key_b same = grind arith
 
   -- what is not before is not after, the other way round
   pub not_after_from_not_before : (a b : Key) → keyed a ≡ true → keyed b ≡ true →
       is_before (compared a b) ≡ false → not_after (compared b a) ≡ true
-  not_after_from_not_before a b key-a key-b not_before = grind arith
+  not_after_from_not_before a b key_a key_b not_before = grind arith
 
   pub not_before_from_not_after : (a b : Key) → keyed a ≡ true → keyed b ≡ true →
       not_after (compared a b) ≡ true → is_before (compared b a) ≡ false
-  not_before_from_not_after a b key-a key-b no_later = grind arith
+  not_before_from_not_after a b key_a key_b no_later = grind arith
 
   -- before, and then not after
   pub before_onward : (a b c : Key) → keyed a ≡ true → keyed b ≡ true → keyed c ≡ true →
       compared a b ≡ Before → not_after (compared b c) ≡ true → compared a c ≡ Before
-  before_onward a b c key-a key-b key-c first second = grind arith
+  before_onward a b c key_a key_b key_c first second = grind arith
 
   -- before, and then before
   pub before_before : (a b c : Key) → keyed a ≡ true → keyed b ≡ true → keyed c ≡ true →
       compared a b ≡ Before → compared b c ≡ Before → compared a c ≡ Before
-  before_before a b c key-a key-b key-c first second =
-      before_onward a b c key-a key-b key-c first (ap not_after second)
+  before_before a b c key_a key_b key_c first second =
+      before_onward a b c key_a key_b key_c first (ap not_after second)
 
   -- not after, and then before
   pub onward_before : (a b c : Key) → keyed a ≡ true → keyed b ≡ true → keyed c ≡ true →
       not_after (compared a b) ≡ true → compared b c ≡ Before → compared a c ≡ Before
-  onward_before a b c key-a key-b key-c first second = grind arith
+  onward_before a b c key_a key_b key_c first second = grind arith
 
   -- not after, and then not after
   pub onward_onward : (a b c : Key) → keyed a ≡ true → keyed b ≡ true → keyed c ≡ true →
@@ -72,19 +72,19 @@ module _ {keyed : Key → Bool} {compared : Key → Key → Comparison} (laws : 
   -- keys that are the same stand alike to any other
   pub same_left : (a b c : Key) → keyed a ≡ true → keyed b ≡ true → keyed c ≡ true →
       compared a b ≡ Same → compared a c ≡ compared b c
-  same_left a b c key-a key-b key-c same =
-      let on-from-a = laws.onward a b c key-a key-b key-c in
-      let on-from-b = laws.onward b a c key-b key-a key-c in
-      let on-to-a = laws.onward c b a key-c key-b key-a in
-      let on-to-b = laws.onward c a b key-c key-a key-b in
+  same_left a b c key_a key_b key_c same =
+      let on_from_a = laws.onward a b c key_a key_b key_c in
+      let on_from_b = laws.onward b a c key_b key_a key_c in
+      let on_to_a = laws.onward c b a key_c key_b key_a in
+      let on_to_b = laws.onward c a b key_c key_a key_b in
       grind arith
 
   pub same_right : (a b c : Key) → keyed a ≡ true → keyed b ≡ true → keyed c ≡ true →
       compared a b ≡ Same → compared c a ≡ compared c b
-  same_right a b c key-a key-b key-c same =
-      let left = same_left a b c key-a key-b key-c same in
+  same_right a b c key_a key_b key_c same =
+      let left = same_left a b c key_a key_b key_c same in
       grind arith
 
   pub same_transitive : (a b c : Key) → keyed a ≡ true → keyed b ≡ true → keyed c ≡ true →
       compared a b ≡ Same → compared b c ≡ Same → compared a c ≡ Same
-  same_transitive a b c key-a key-b key-c first second = same_left a b c key-a key-b key-c first ∙ second
+  same_transitive a b c key_a key_b key_c first second = same_left a b c key_a key_b key_c first ∙ second

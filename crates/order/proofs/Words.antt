@@ -18,16 +18,16 @@ word_of_bytes w fits = omega arith
 pub bytes_of_word : (a b c d e f g h : ℕ) →
     a < 256 → b < 256 → c < 256 → d < 256 → e < 256 → f < 256 → g < 256 → h < 256 →
     bytes_of (word_from 0 (a ∷ b ∷ c ∷ d ∷ e ∷ f ∷ g ∷ h ∷ [])) ≡ a ∷ b ∷ c ∷ d ∷ e ∷ f ∷ g ∷ h ∷ []
-bytes_of_word a b c d e f g h a-fits b-fits c-fits d-fits e-fits f-fits g-fits h_fits =
+bytes_of_word a b c d e f g h a_fits b_fits c_fits d_fits e_fits f_fits g_fits h_fits =
     let w : ℕ = word_from 0 (a ∷ b ∷ c ∷ d ∷ e ∷ f ∷ g ∷ h ∷ []) in
-    let a-is : w / 256 ^ 7 % 256 ≡ a = omega arith in
-    let b-is : w / 256 ^ 6 % 256 ≡ b = omega arith in
-    let c-is : w / 256 ^ 5 % 256 ≡ c = omega arith in
-    let d-is : w / 256 ^ 4 % 256 ≡ d = omega arith in
-    let e-is : w / 256 ^ 3 % 256 ≡ e = omega arith in
-    let f-is : w / 256 ^ 2 % 256 ≡ f = omega arith in
-    let g-is : w / 256 % 256 ≡ g = omega arith in
-    let h-is : w % 256 ≡ h = omega arith in
+    let a_is : w / 256 ^ 7 % 256 ≡ a = omega arith in
+    let b_is : w / 256 ^ 6 % 256 ≡ b = omega arith in
+    let c_is : w / 256 ^ 5 % 256 ≡ c = omega arith in
+    let d_is : w / 256 ^ 4 % 256 ≡ d = omega arith in
+    let e_is : w / 256 ^ 3 % 256 ≡ e = omega arith in
+    let f_is : w / 256 ^ 2 % 256 ≡ f = omega arith in
+    let g_is : w / 256 % 256 ≡ g = omega arith in
+    let h_is : w % 256 ≡ h = omega arith in
     cc
 
 -- the bytes of the word that a text has from a place on

@@ -1,10 +1,9 @@
 -- Laws of the comparison byte by byte, in which case does not count.
-use Rattle.std.specs.Prelude.{◌≡◌, ℕ, ◌+◌, ◌<◌, ◌≤◌, true, List, [], ◌∷◌, length, drop, ◌≢◌, slice_index, refl}
+use Rattle.std.specs.Prelude.{◌≡◌, ℕ, true, List, [], ◌∷◌, refl}
 use Rattle.std.proofs.Common.{arith}
 use Rattle.std.proofs.lemmas.Bool.Decides.{nat_tests}
-use Rattle.std.proofs.lemmas.List.{drop_more, drop_all}
 use Rattle.order.specs.declared.keys.Comparison.{Comparison}
-use Rattle.order.specs.declared.keys.Comparison.TheVariants.{Before, Same, After}
+use Rattle.order.specs.declared.keys.Comparison.TheVariants.{Same}
 use Rattle.order.specs.Comparisons.{by_number, and_then, exchanged, not_after}
 use Rattle.order.specs.Places.{by_folded_bytes, folded}
 
@@ -44,27 +43,3 @@ bytes_onward (x ∷ xs) [] zs first second = grind arith
 bytes_onward (x ∷ xs) (y ∷ ys) [] first second = grind arith
 bytes_onward (x ∷ xs) (y ∷ ys) (z ∷ zs) first second =
     front_onward (folded x) (folded y) (folded z) _ _ _ (bytes_onward xs ys zs) first second
-
--- the bytes at i decide, or else those from i + 1 on
-bytes_more : (xs ys : List ℕ) (i : ℕ) → i < length xs → i < length ys →
-    by_folded_bytes (drop i xs) (drop i ys)
-    ≡ and_then (by_number (folded (slice_index xs i)) (folded (slice_index ys i)))
-    (by_folded_bytes (drop (i + 1) xs) (drop (i + 1) ys))
-bytes_more xs ys i in-xs in_ys = rw (drop_more xs i 0, drop_more ys i 0)
-
--- the same, with the bytes and their answer under other names
-pub bytes_decide : (xs ys : List ℕ) (i x y : ℕ) (o : Comparison) → i < length xs → i < length ys →
-    x ≡ folded (slice_index xs i) → y ≡ folded (slice_index ys i) → o ≡ by_number x y →
-    by_folded_bytes (drop i xs) (drop i ys) ≡ and_then o (by_folded_bytes (drop (i + 1) xs) (drop (i + 1) ys))
-bytes_decide xs ys i x y o in-xs in_ys x-is y-is o_is = rw (o_is, x-is, y-is) (bytes_more xs ys i in-xs in_ys)
-
--- an answer that is not `Same` stands
-pub answer_stands : (o next : Comparison) → (o ≢ Same) → o ≡ and_then o next
-answer_stands Before next other = refl
-answer_stands Same next other = absurd (other refl)
-answer_stands After next other = refl
-
--- at the end nothing is left to differ
-pub bytes_all : (xs ys : List ℕ) (i : ℕ) → length xs ≤ i → length ys ≤ i →
-    by_folded_bytes (drop i xs) (drop i ys) ≡ Same
-bytes_all xs ys i past-xs past-ys = rw (drop_all i xs, drop_all i ys)

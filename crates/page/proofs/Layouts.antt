@@ -4,7 +4,7 @@ use Rattle.std.proofs.lemmas.List.{places, length-append, length-replicate}
 use Rattle.std.proofs.lemmas.Bool.{ne_eqb, cases_lt}
 use Rattle.order.specs.declared.keys.Key.{Key}
 use Rattle.store.specs.Overlay.{overlay, run}
-use Rattle.store.proofs.Overlays.{length_overlay, run_overlay, run_below, run_above, get_d_run, length_run}
+use Rattle.store.proofs.Overlays.{length_overlay, run_overlay, run_below, run_above, get_or_run, length_run}
 use Rattle.page.specs.declared.entries.Entry.{Entry}
 use Rattle.page.specs.declared.pages.PageState.{PageState}
 use Rattle.page.specs.declared.pages.PageState.TheVariants.{Free, Live, Gone, Damaged}
@@ -135,10 +135,10 @@ word_put_after w p xs i full room h = search (rules, places)
 
 -- a word of page p, and of page 0
 pub word_run : (w : List ℕ) (p i : ℕ) → i < 64 → get_or (page_run w p) i 0 ≡ get_or w (64 * p + i) 0
-word_run w p i h = get_d_run w (64 * p) 64 i h
+word_run w p i h = get_or_run w (64 * p) 64 i h
 
 pub word_zero : (w : List ℕ) (i : ℕ) → i < 64 → get_or (page_run w 0) i 0 ≡ get_or w i 0
-word_zero w i h = get_d_run w 0 64 i h ∙ ap (λ n. get_or w n 0) (omega arith)
+word_zero w i h = get_or_run w 0 64 i h ∙ ap (λ n. get_or w n 0) (omega arith)
 
 -- a page that takes 64 words has no more entries than there is room for
 pub few_of_length : (x : Page) → length (words_of x) ≡ 64 → length x.entries ≤ 18

@@ -118,6 +118,7 @@ impl CallLine {
 }
 
 /// What the bytes of a line ask for, if they are a call line with the number of a call.
+#[tactic(auto, unfolding(crate::specs::Lines::request_of))]
 pub fn read_request(line: &[u8]) -> Option<Request>
     ensures { result ≡ request_of line.now }
 {

@@ -80,9 +80,9 @@ run_more w at n h =
     ∙ ap (λ x. take n (drop at w) ++ x ∷ []) (get_or-drop at w n 0)
 
 -- an element of a run
-pub get_d_run : (w : List ℕ) (at n i : ℕ) → i < n → get_or (run w at n) i 0 ≡ get_or w (at + i) 0
+pub get_or_run : (w : List ℕ) (at n i : ℕ) → i < n → get_or (run w at n) i 0 ≡ get_or w (at + i) 0
 unfolding run
-get_d_run w at n i h = get_or-take n (drop at w) i 0 h ∙ get_or-drop at w i 0
+get_or_run w at n i h = get_or-take n (drop at w) i 0 h ∙ get_or-drop at w i 0
 
 -- what was laid over is read back
 pub run_overlay : (w : List ℕ) (at : ℕ) (xs : List ℕ) → at + length xs ≤ length w

@@ -1,5 +1,5 @@
 //! A store over a caller's text, each word a line of 21 bytes.
-ghost use Rattle.std.specs.Prelude.{◌≡◌, ◌+◌, ◌*◌, ◌≤◌, cond, [], length, if◌then◌else◌, nat_lt, slice_set};
+ghost use Rattle.std.specs.Prelude.{◌≡◌, ◌+◌, ◌*◌, ◌≤◌, [], length, if◌then◌else◌, nat_lt, slice_set};
 ghost use Rattle.store.specs.Overlay.{overlay};
 ghost use Rattle.store.specs.Words.{word_at};
 ghost use Rattle.store.specs.Text.{word_line, InForm, LinesTo, words_to, words_in, OneTextForm};
@@ -115,8 +115,8 @@ impl<'a> Store for TextStore<'a> {
         ensures written { words_to self.new.bytes.now self.new.lines
             ≡ slice_set (words_to self.old.bytes.now self.old.lines) at word }
         ensures laid { self.new.bytes.now
-            ≡ cond result (overlay self.old.bytes.now (21 * at) (word_line word))
-            self.old.bytes.now }
+            ≡ (if result then overlay self.old.bytes.now (21 * at) (word_line word)
+            else self.old.bytes.now) }
         ensures tied { self.new.bytes.ghost_name ≡ self.old.bytes.ghost_name }
     {
         let lines = self.lines;

@@ -1,5 +1,5 @@
 use Rattle.std.proofs.Common.{sym, ◌∙◌, arith}
-use Rattle.order.specs.Folding.{bytes_decide, bytes_all, answer_stands}
+use Rattle.order.proofs.Folding.{bytes_decide, bytes_all, answer_stands}
 use Rattle.order.proofs.places.compare_folded.Goals as goal
 
 pub returns-in_default : goal.returns-in_default
