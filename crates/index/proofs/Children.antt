@@ -1,14 +1,10 @@
 -- The children of an inner page, one by one.
-use Rattle.std.proofs.Common.{◌≡◌, ℕ, zero, suc, ◌+◌, ◌<◌, ◌≤◌, Bool, true, false, cond, List, [], ◌∷◌, length, drop, Some, None, Option, sym, refl, ap, ◌∙◌, inl, inr, arith}
-use Rattle.std.proofs.lemmas.List.{at_drop_more, at_drop_all}
-use Rattle.std.proofs.lemmas.Bool.{and_parts, both_ways, cases_lt, lt-ltb, le-ltb, cond-true, cond-false}
-use Rattle.std.proofs.lemmas.Option.{slice_get-get_or, slice_get_past}
-use Rattle.std.specs.List.{slice_get}
-use Rattle.order.specs.declared.keys.Key.{Key}
+use Rattle.std.proofs.Common.{◌≡◌, ℕ, zero, suc, ◌+◌, ◌-◌, ◌<◌, ◌≤◌, Bool, true, false, cond, List, [], ◌∷◌, length, take, drop, Some, None, Option, refl, ap, ◌∙◌, arith}
+use Rattle.std.proofs.lemmas.List.{at_drop_more, at_drop_all, take_all}
+use Rattle.std.proofs.lemmas.Bool.{and_parts, both_ways}
 use Rattle.page.specs.declared.entries.Entry.{Entry}
-use Rattle.page.specs.Entries.{entry_at}
 use Rattle.model.specs.States.{State, view, readable}
-use Rattle.model.specs.Upkeep.{is_child, wrong_child, child_at, following}
+use Rattle.model.specs.Upkeep.{is_child, wrong_child, child_at}
 
 -- what stands for an entry that is not there
 abbrev pub no_entry : Entry
@@ -42,40 +38,28 @@ pub child_readable : (s : State) (level : ℕ) (es : List Entry) → wrong_child
     → (i : ℕ) → i < length es → readable s.fill (view s (child_at es i)) ≡ true
 child_readable s level es none i lt = (and_parts _ _ (each_child s level es none i lt)).0
 
+-- the children behind the first of a slice that holds the entries
+pub in_rest : {slice es : List Entry} → slice ≡ es → (i : ℕ)
+    → child_at (take (length slice - 1) (drop 1 slice)) i ≡ child_at es (i + 1)
+in_rest {slice} same i = among slice ∙ ap (λ es. child_at es (i + 1)) same
+  where
+    among : (es : List Entry) → child_at (take (length es - 1) (drop 1 es)) i ≡ child_at es (i + 1)
+    among [] = refl
+    among (e ∷ es) =
+        let on : suc i ≡ i + 1 = omega arith in
+        ap (λ fs. child_at fs i) (take_all (length (e ∷ es) - 1) es (omega arith)) ∙ ap (child_at (e ∷ es)) on
+
+pub rest_long : {slice es : List Entry} → slice ≡ es → length (take (length slice - 1) (drop 1 slice)) ≡ length es - 1
+rest_long {slice} same = among slice ∙ ap (λ es. length es - 1) same
+  where
+    among : (es : List Entry) → length (take (length es - 1) (drop 1 es)) ≡ length es - 1
+    among [] = refl
+    among (e ∷ es) =
+        let less : length es ≡ suc (length es) - 1 = omega arith in
+        ap length (take_all (length (e ∷ es) - 1) es (omega arith)) ∙ less
+
 -- so none of a slice that holds the entries is unreadable
 pub none_unreadable : (s : State) (level : ℕ) {slice es : List Entry} → slice ≡ es → wrong_child s level es ≡ None
     → (i : ℕ) → i < length slice → readable s.fill (view s (child_at slice i)) ≡ false → ⊥
 none_unreadable s level {slice} same none i lt unread =
     both_ways _ unread (child_readable s level slice (ap (wrong_child s level) same ∙ none) i lt)
-
--- the entry at a place
-pub entry_nth : (es : List Entry) (i : ℕ) → entry_at es i ≡ slice_get es i
-entry_nth es i = elim (cases_lt i (length es)) [
-  | inl within ↦ cond-true _ _ _ (lt-ltb i (length es) within) ∙ sym (slice_get-get_or es i no_entry within)
-  | inr past ↦ cond-false _ _ _ (le-ltb i (length es) past) ∙ sym (slice_get_past es i past)
-]
-
--- the child at a place, if there is one
-pub child_nth : (es : List Entry) (i : ℕ) (e : Entry) → Some e ≡ slice_get es i → e.value ≡ child_at es i
-child_nth [] i e found = absurd (let z : ◌≡◌ {A = ℕ} 0 1 = cc in omega arith)
-child_nth (d ∷ es) zero e found = cc
-child_nth (d ∷ es) (suc i) e found = child_nth es i e found
-
-pub no_child : (es : List Entry) (i : ℕ) → None ≡ slice_get es i → 0 ≡ child_at es i
-no_child [] zero found = refl
-no_child [] (suc i) found = refl
-no_child (d ∷ es) zero found = absurd (let z : ◌≡◌ {A = ℕ} 0 1 = cc in omega arith)
-no_child (d ∷ es) (suc i) found = no_child es i found
-
--- what follows the entries before a place, by the entry there
-pub following_nth : (end : Option Key) (es : List Entry) (i : ℕ) (e : Entry) → Some e ≡ slice_get es i
-    → Some e.key ≡ following end (drop i es)
-following_nth end [] i e found = absurd (let z : ◌≡◌ {A = ℕ} 0 1 = cc in omega arith)
-following_nth end (d ∷ es) zero e found = cc
-following_nth end (d ∷ es) (suc i) e found = following_nth end es i e found
-
-pub following_none : (end : Option Key) (es : List Entry) (i : ℕ) → None ≡ slice_get es i → end ≡ following end (drop i es)
-following_none end [] zero found = refl
-following_none end [] (suc i) found = refl
-following_none end (d ∷ es) zero found = absurd (let z : ◌≡◌ {A = ℕ} 0 1 = cc in omega arith)
-following_none end (d ∷ es) (suc i) found = following_none end es i found

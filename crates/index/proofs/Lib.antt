@@ -5,7 +5,6 @@ pub mod PageWords
 pub mod FreeChains
 -- turn
 pub mod Searches
-pub mod Turning
 -- post and merge
 pub mod Children
 pub mod Places

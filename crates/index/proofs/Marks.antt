@@ -63,13 +63,17 @@ unmarked (suc n) (suc k) = unmarked n k
 
 -- at first no page is marked
 pub marking_none : (s : State) → Marking s 1 (replicate 4096 false)
-marking_none s = (length-replicate 4096 false, λ p low lt. absurd (omega arith), λ k h. unmarked 4096 k)
+marking_none s = (length-replicate 4096 false, first, λ k h. unmarked 4096 k)
+  where
+    first : MarkedBelow s 1 (replicate 4096 false)
+    first zero lt = refl
+    first (suc p) lt = absurd (omega arith)
 
 -- one page more is marked as it should be
 below_more : (s : State) (marks : List Bool) (n : ℕ) → MarkedBelow s n marks → get_or marks n false ≡ is_unreached s n
     → MarkedBelow s (n + 1) marks
-below_more s marks n below here p low lt = elim (cases_lt p n) [
-  | inl h ↦ below p low h
+below_more s marks n below here p lt = elim (cases_lt p n) [
+  | inl h ↦ below p h
   | inr h ↦ let e : n ≡ p = omega arith in subst (λ k. get_or marks k false ≡ is_unreached s k) e here
 ]
 
@@ -87,7 +91,7 @@ marking_set s marks n room so unreached =
     let within : n < length marks = omega arith in (
       length-set marks n true ∙ long,
       below_more s (set marks n true) n
-          (λ p low lt. let ne : p ≢ n = omega arith in get_or-set_other marks n p true false ne ∙ so.1 p low lt)
+          (λ p lt. let ne : p ≢ n = omega arith in get_or-set_other marks n p true false ne ∙ so.1 p lt)
           (get_or-set_same marks n true false within ∙ sym unreached),
       λ k h. let ne : k ≢ n = omega arith in get_or-set_other marks n k true false ne ∙ so.2 k (omega arith),
     )

@@ -1,14 +1,12 @@
 -- What a merge asks of the pages that it writes.
-use Rattle.std.proofs.Common.{◌≡◌, ℕ, ◌+◌, ◌/◌, ◌<◌, ◌≤◌, true, eqb, leb, List, length, Some, None, Option, sym, ap, ◌∙◌, inl, inr, arith}
-use Rattle.std.proofs.lemmas.Bool.{and_parts, or_cases, leb-true, eqb-true}
-use Rattle.std.proofs.lemmas.List.{length-append, length-take-le}
+use Rattle.std.proofs.Common.{◌≡◌, ℕ, ◌+◌, ◌<◌, ◌≤◌, true, leb, List, length, Some, None, ap, ◌∙◌, arith}
+use Rattle.std.proofs.lemmas.Bool.{and_parts, leb-true}
+use Rattle.std.proofs.lemmas.List.{length-append}
 use Rattle.page.specs.declared.entries.Entry.{Entry}
-use Rattle.page.specs.declared.pages.PageBuf.{PageBuf}
-use Rattle.page.specs.Entries.{list_of}
 use Rattle.page.specs.Pages.{Page, is_there}
-use Rattle.model.specs.States.{State, Outcome, view, write, readable, has_form, top_level, is_fed}
-use Rattle.model.specs.Upkeep.{child_at, entry_out, wrong_child, on_inner}
-use Rattle.model.specs.Upkeep.{is_small, merge_pair, joined, gone_into, merge_at, merge_page, merge}
+use Rattle.model.specs.States.{State, view, write, readable, has_form, top_level, is_fed}
+use Rattle.model.specs.Upkeep.{child_at, entry_out, wrong_child}
+use Rattle.model.specs.Upkeep.{is_small, merge_pair, joined, gone_into, merge_at}
 use Rattle.model.specs.Turns.{with_entries}
 use Rattle.model.proofs.MergePairs.{pair_at_lem}
 use Rattle.model.proofs.Views.{held_in_range}
@@ -17,53 +15,21 @@ use Rattle.index.specs.Parents.{IsParent}
 use Rattle.index.proofs.Children.{child_readable}
 
 -- a page that can be worked on is not overfull
-readable_few : (fill : ℕ) (x : Page) → readable fill x ≡ true → length x.entries ≤ fill
+pub readable_few : (fill : ℕ) (x : Page) → readable fill x ≡ true → length x.entries ≤ fill
 readable_few fill x held =
     let level = (and_parts (has_form x.state) _ held).1 in
     let few = (and_parts (leb x.level top_level) _ level).1 in
     leb-true (length x.entries) fill (and_parts _ (is_fed x) few).0
 
--- so is no page in memory
-pub few_entries : (b : PageBuf) → length (list_of b.entries) ≤ 18
-few_entries b =
-    let few = b.entries.few in
-    let full = b.entries.full in
-    omega (arith, length-take-le b.entries.count b.entries.items (omega arith))
-
--- two pages that may become one have room in one
-small_fits : (fill : ℕ) (x y : Page) → fill ≤ 18 → readable fill x ≡ true → readable fill y ≡ true
-    → is_small fill x y ≡ true → length x.entries + length y.entries ≤ 18
-small_fits fill x y few left right small =
-    let lefts = readable_few fill x left in
-    let rights = readable_few fill y right in
-    let n : ℕ = length x.entries in
-    let m : ℕ = length y.entries in
-    elim (or_cases (leb (n + m) (fill / 2)) _ small) [
-      | inl half ↦ omega (arith, leb-true (n + m) (fill / 2) half)
-      | inr one ↦ elim (or_cases (eqb n 0) (eqb m 0) one) [
-        | inl none ↦ omega (arith, eqb-true n 0 none)
-        | inr none ↦ omega (arith, eqb-true m 0 none)
-      ]
-    ]
-
-module _ (s : State) (left right : ℕ) {x y : Page} (first : x ≡ view s left) (second : y ≡ view s right) where
-  -- the two children, as they were read
-  pub children_fit : s.fill ≤ 18 → readable s.fill (view s left) ≡ true → readable s.fill (view s right) ≡ true
-      → is_small s.fill (view s left) (view s right) ≡ true → length x.entries + length y.entries ≤ 18
-  children_fit few held held2 small =
-      let fit = small_fits s.fill (view s left) (view s right) few held held2 small in
-      let lefts = ap (λ (z : Page). length z.entries) first in
-      let rights = ap (λ (z : Page). length z.entries) second in
-      omega arith
-
-  -- the left one is written, and then the right one
-  pub both_written : {t u : State} {a b : Page} → a ≡ joined x y → b ≡ gone_into left y → t ≡ write left a s
-      → u ≡ write right b t → u ≡ children_merged left right s
-  both_written whole gone saved saved2 =
-      let taken = whole ∙ (λ i. joined (first i) (second i)) in
-      let empty = gone ∙ (λ i. gone_into left (second i)) in
-      let written = saved ∙ (λ i. write left (taken i) s) in
-      saved2 ∙ (λ i. write right (empty i) (written i))
+-- two pages, as they were read: the left one is written, and then the right one
+pub both_written : (s : State) (left right : ℕ) {x y : Page} → x ≡ view s left → y ≡ view s right
+    → {t u : State} {a b : Page} → a ≡ joined x y → b ≡ gone_into left y → t ≡ write left a s → u ≡ write right b t
+    → u ≡ children_merged left right s
+both_written s left right first second whole gone saved saved2 =
+    let taken = whole ∙ (λ i. joined (first i) (second i)) in
+    let empty = gone ∙ (λ i. gone_into left (second i)) in
+    let written = saved ∙ (λ i. write left (taken i) s) in
+    saved2 ∙ (λ i. write right (empty i) (written i))
 
 module _ (s : State) (es : List Entry) (i : ℕ) (found : merge_pair s es ≡ Some i) where
   -- the pair that merge finds stands within the entries
@@ -79,35 +45,25 @@ module _ (s : State) (es : List Entry) (i : ℕ) (found : merge_pair s es ≡ So
       → is_small s.fill (view s a) (view s b) ≡ true
   pair_small first second =
       let at = pair_at_lem s es i found in
-      let left = first ∙ at.at_left in
-      let right = second ∙ at.at_right in
-      (λ t. is_small s.fill (view s (left t)) (view s (right t))) ∙ at.small
+      cc
 
   -- the children of a parent can be read
   pub pair_readable : (level : ℕ) → wrong_child s level es ≡ None
       → {a b : ℕ} → a ≡ child_at es i → b ≡ child_at es (i + 1)
       → (readable s.fill (view s a) ≡ true) × (readable s.fill (view s b) ≡ true)
   pair_readable level none first second =
-      let within = pair_within in (
-        ap (λ n. readable s.fill (view s n)) first ∙ child_readable s level es none i (omega arith),
-        ap (λ n. readable s.fill (view s n)) second ∙ child_readable s level es none (i + 1) within,
-      )
+      let within = pair_within in
+      let left = child_readable s level es none i (omega arith) in
+      let right = child_readable s level es none (i + 1) within in
+      (cc, cc)
 
 -- all three pages written
 pub all_written : (s : State) (p : ℕ) (x : Page) (i a b : ℕ)
     → a ≡ child_at x.entries i → b ≡ child_at x.entries (i + 1)
     → {t u : State} {y : Page} → t ≡ children_merged a b s → y ≡ with_entries (entry_out (i + 1) x.entries) x
     → u ≡ write p y t → u ≡ (merge_at p x (Some i) s).after
-all_written s p x i a b first second both parent saved =
-    let merged = both ∙ (λ t. children_merged (first t) (second t) s) in
-    saved ∙ (λ t. write p (parent t) (merged t))
+all_written s p x i a b first second both parent saved = cc
 
 -- the store has a parent
 pub parent_there : (s : State) (p : ℕ) (x : Page) → IsParent s p x → is_there s.words p ≡ true
-parent_there s p x parent =
-    (held_in_range s p (and_parts _ _ (ap (readable s.fill) (sym parent.known) ∙ parent.held)).0).2
-
--- what merge does with the pair that was found
-pub merge_found : (s : State) (p : ℕ) (x : Page) → ((work : Page → State → Outcome) → on_inner p work s ≡ work x s)
-    → {found : Option ℕ} → found ≡ merge_pair s x.entries → merge_at p x found s ≡ merge p s
-merge_found s p x done same = ap (λ m. merge_at p x m s) same ∙ sym (done (merge_page p))
+parent_there s p x parent = grind (arith, held_in_range)

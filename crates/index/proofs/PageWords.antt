@@ -1,18 +1,11 @@
 -- What words 0 and 3 of a page tell.
-use Rattle.std.proofs.Common.{◌≡◌, ℕ, ◌+◌, ◌*◌, ◌/◌, ◌<◌, true, eqb, ltb, length, get_or, sym, ap, ◌∙◌, arith}
-use Rattle.std.proofs.lemmas.Bool.{cond-true, and_from, lt-ltb, le-leb}
+use Rattle.std.proofs.Common.{◌≡◌, ℕ, ◌+◌, ◌*◌, true, eqb, get_or, sym, ap, ◌∙◌, arith}
+use Rattle.std.proofs.lemmas.Bool.{cond-true}
 use Rattle.std.proofs.lemmas.Bool.Decides.{nat_tests}
 use Rattle.page.specs.Pages.{state_of as state_in, Page, page_at}
 use Rattle.page.proofs.Layouts.{word_run}
 use Rattle.model.specs.States.{State, view, nowhere, is_free}
 use Rattle.index.specs.Indexes.{is_page}
-
--- a page with a number in range that lies whole in the store is there
-pub page_there : (s : State) (p : ℕ) → 0 < p → p < s.pages → p < length s.words / 64 → is_page s p ≡ true
-page_there s p above below within =
-    and_from (ltb 0 p) _ (lt-ltb 0 p above)
-    (and_from (ltb p s.pages) _ (lt-ltb p s.pages below)
-    (le-leb (64 * p + 64) (length s.words) (omega arith)))
 
 -- the state of a page is in its word 0
 pub state_word_lem : (s : State) (p : ℕ) → is_page s p ≡ true → (view s p).state ≡ state_in (get_or s.words (64 * p) 0)

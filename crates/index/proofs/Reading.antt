@@ -1,11 +1,10 @@
 -- A page that cannot be read off the store is not readable.
-use Rattle.std.proofs.Common.{◌≡◌, ℕ, ◌+◌, ◌*◌, ◌<◌, ◌≤◌, true, false, ◌&&◌, ltb, leb, List, length, get_or, refl, ap, ◌∙◌, inl, inr, arith}
-use Rattle.std.proofs.lemmas.Bool.{and_parts, and_cases, both_ways, and_left, and_right, lt-leb, leb-true, leb-false, cond-true, cond_both}
-use Rattle.page.specs.Pages.{Page, words_of, page_run}
+use Rattle.std.proofs.Common.{◌≡◌, ℕ, ◌<◌, ◌≤◌, false, ◌&&◌, ltb, leb, length, get_or, refl, inl, inr, arith}
+use Rattle.std.proofs.lemmas.Bool.{and_parts, and_cases, both_ways, and_left, and_right, lt-leb, leb-false, cond_both}
+use Rattle.page.specs.Pages.{Page, page_run}
 use Rattle.page.specs.Pages.{page_at, is_there}
-use Rattle.page.specs.Buffers.{can_read, count_fits, put_if_there}
+use Rattle.page.specs.Buffers.{can_read, count_fits}
 use Rattle.page.proofs.Buffers.{length_page_from}
-use Rattle.page.proofs.Layouts.{length_words, length_put}
 use Rattle.model.specs.States.{State, view, nowhere, readable, has_form, top_level}
 
 -- a page with more entries than the fill allows cannot be worked on
@@ -30,10 +29,3 @@ unread s p few cannot =
           (omega (arith, length_page_from (page_run w p), leb-false (get_or (page_run w p) 2 0) 18 many))
     ])
     (λ _. refl)
-
--- a page that was written leaves the store as long as it was
-pub length_saved : (w v : List ℕ) (p : ℕ) (x : Page) → length x.entries ≤ 18 → is_there w p ≡ true
-    → v ≡ put_if_there w p (words_of x) → length v ≡ length w
-length_saved w v p x few there e =
-    ap length (e ∙ cond-true (is_there w p) _ _ there)
-    ∙ length_put w p (words_of x) (length_words x few) (leb-true (64 * p + 64) (length w) there)

@@ -1,7 +1,7 @@
 -- The state that an index holds.
 use Rattle.std.specs.Prelude.{ℕ, Bool, ◌&&◌, List, nat_lt}
 use Rattle.order.specs.declared.keys.Key.{Key}
-use Rattle.order.specs.declared.keys.Comparison.{Comparison}
+use Rattle.std.specs.declared.cmp.Ordering.{Ordering}
 use Rattle.page.specs.Pages.{is_there}
 use Rattle.model.specs.Entries.{KeyOrder}
 use Rattle.model.specs.States.{State}
@@ -16,5 +16,5 @@ abbrev pub is_page : State → ℕ → Bool
 is_page s p = nat_lt 0 p && (nat_lt p s.pages && is_there s.words p)
 
 -- an order by its two answers
-abbrev pub rule_of : (Key → Bool) → (Key → Key → Comparison) → KeyOrder
+abbrev pub rule_of : (Key → Bool) → (Key → Key → Ordering) → KeyOrder
 rule_of keyed compared = record { keyed = keyed; compared = compared }

@@ -3,16 +3,13 @@ ghost use Rattle.std.specs.Prelude.{◌≡◌, true, length};
 ghost use Rattle.order.specs.Refusals.{JustWhere};
 ghost use Rattle.page.specs.Buffers.{page_of};
 ghost use Rattle.page.specs.Pages.{is_there};
-ghost use Rattle.model.specs.States.{view, write, write_head, readable, free_head, free_page, is_free};
+ghost use Rattle.model.specs.States.{view, write, write_head, readable};
 ghost use Rattle.model.specs.States.{root as root_of};
 ghost use Rattle.index.specs.Indexes.{state_of, is_page};
 
 use crate::index::Index;
-use model::Answer;
 use order::Order;
-use page::{
-    HeadBuf, PageBuf, PageState, read_free, read_page, read_root, read_word, write_head, write_page,
-};
+use page::{HeadBuf, PageBuf, PageState, read_page, read_root, read_word, write_head, write_page};
 use store::Store;
 
 pub(crate) const TOP_LEVEL: u64 = 4095;
@@ -59,13 +56,29 @@ impl<S: Store, O: Order> Index<S, O> {
         if page == 0 || page >= self.pages {
             return None;
         }
-        let Some(found) = read_page(&self.store, page) else {
-            return None;
-        };
-        if is_readable(&found, self.fill) {
-            Some(found)
+        let found = read_page(&self.store, page)?;
+        is_readable(&found, self.fill).then_some(found)
+    }
+
+    // What a page is used for. Only its word 0 is read.
+    pub(crate) fn state_at(&self, page: u64) -> PageState
+        ensures { result ≡ (view (state_of S.words self.now) page).state }
+    {
+        if self.has(page) {
+            PageState::from(read_word(&self.store, 64 * page))
         } else {
-            None
+            PageState::Damaged
+        }
+    }
+
+    // The page that a page is linked to. Only its word 3 is read.
+    pub(crate) fn link_at(&self, page: u64) -> u64
+        ensures { result ≡ (view (state_of S.words self.now) page).link }
+    {
+        if self.has(page) {
+            read_word(&self.store, 64 * page + 3)
+        } else {
+            0
         }
     }
 

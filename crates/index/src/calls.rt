@@ -1,10 +1,14 @@
 //! The calls of an index. Each answers a code and a figure, and a refusal changes nothing.
+//!
+//! They take and give numbers, since these are the project's interface; behind them an answer is a `Result`.
+//! They answer a pair and no `Result`, since the scope's interface is numbers.
 ghost use Rattle.model.specs.CallPromises.{AttachCalled, Called, EndsAlone, FormatCalled};
 ghost use Rattle.model.specs.Calls.{begin as begin_call, turn as turn_call, withdraw as withdraw_call};
 ghost use Rattle.model.specs.Calls.{post as post_call, merge as merge_call, raise as raise_call, sweep as sweep_call};
 ghost use Rattle.index.specs.Indexes.{state_of, rule_of};
 
 use crate::index::Index;
+use model::pair;
 use order::{Key, Order};
 use store::Store;
 
@@ -15,7 +19,7 @@ impl<S: Store, O: Order> Index<S, O> {
         ensures { FormatCalled fill (state_of S.words self.old)
             result.0 result.1 (state_of S.words self.new) }
     {
-        self.format_step(fill).pair()
+        pair(self.format_step(fill))
     }
 
     /// Takes a store that holds an index, by its page 0 alone, and leaves every console idle.
@@ -24,7 +28,7 @@ impl<S: Store, O: Order> Index<S, O> {
         ensures { AttachCalled (state_of S.words self.old)
             result.0 result.1 (state_of S.words self.new) }
     {
-        self.attach_step().pair()
+        pair(self.attach_step())
     }
 
     /// Gives a console a job of a kind (1 look, 2 enter, 3 strike) for a key and a value; it stands on the root. 20.
@@ -33,7 +37,7 @@ impl<S: Store, O: Order> Index<S, O> {
         ensures { Called (rule_of O.keyed O.compared) (begin_call console kind key value)
             (state_of S.words self.old) result.0 result.1 (state_of S.words self.new) }
     {
-        self.begin_step(console, kind, key, value).pair()
+        pair(self.begin_step(console, kind, key, value))
     }
 
     /// Takes one turn of a console's job: it handles the one page on which the job stands.
@@ -45,7 +49,7 @@ impl<S: Store, O: Order> Index<S, O> {
             result.0 result.1 (state_of S.words self.new) }
         ensures alone { EndsAlone (rule_of O.keyed O.compared) console (state_of S.words self.old) }
     {
-        self.turn_step(console).pair()
+        pair(self.turn_step(console))
     }
 
     /// Drops a console's job. 28 with the page on which it stood.
@@ -54,7 +58,7 @@ impl<S: Store, O: Order> Index<S, O> {
         ensures { Called (rule_of O.keyed O.compared) (withdraw_call console) (state_of S.words self.old)
             result.0 result.1 (state_of S.words self.new) }
     {
-        self.withdraw_step(console).pair()
+        pair(self.withdraw_step(console))
     }
 
     /// Enters into an inner page the right neighbour of the first child that ends short of what follows it. 29 with
@@ -64,7 +68,7 @@ impl<S: Store, O: Order> Index<S, O> {
         ensures { Called (rule_of O.keyed O.compared) (post_call page) (state_of S.words self.old)
             result.0 result.1 (state_of S.words self.new) }
     {
-        self.post_step(page).pair()
+        pair(self.post_step(page))
     }
 
     /// Joins the first two small neighbours under an inner page. 30 with the page that is gone now.
@@ -73,7 +77,7 @@ impl<S: Store, O: Order> Index<S, O> {
         ensures { Called (rule_of O.keyed O.compared) (merge_call page) (state_of S.words self.old)
             result.0 result.1 (state_of S.words self.new) }
     {
-        self.merge_step(page).pair()
+        pair(self.merge_step(page))
     }
 
     /// Puts a new root over a root that has a right neighbour. 31 with it.
@@ -82,7 +86,7 @@ impl<S: Store, O: Order> Index<S, O> {
         ensures { Called (rule_of O.keyed O.compared) raise_call (state_of S.words self.old)
             result.0 result.1 (state_of S.words self.new) }
     {
-        self.raise_step().pair()
+        pair(self.raise_step())
     }
 
     /// Frees every gone page on which no job stands and to which no gone page points. 32 with their number.
@@ -91,6 +95,6 @@ impl<S: Store, O: Order> Index<S, O> {
         ensures { Called (rule_of O.keyed O.compared) sweep_call (state_of S.words self.old)
             result.0 result.1 (state_of S.words self.new) }
     {
-        self.sweep_step().pair()
+        pair(self.sweep_step())
     }
 }

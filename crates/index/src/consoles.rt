@@ -19,10 +19,7 @@ pub struct Consoles {
 pub fn is_on(job: Option<Job>, page: u64) -> bool
     ensures { result ≡ is_on page job }
 {
-    match job {
-        Some(job) => job.page == page,
-        None => false,
-    }
+    job.is_some_and(|job| job.page == page)
 }
 
 impl Consoles {
@@ -36,6 +33,7 @@ impl Consoles {
     }
 
     /// Leaves every console idle.
+    // A loop over the consoles with their numbers: the project fixes this shape for the table.
     pub fn clear(&mut self)
         ensures { self.new.jobs ≡ no_jobs }
     {
@@ -48,17 +46,14 @@ impl Consoles {
     pub fn job(&self, console: u64) -> Option<Job>
         ensures { result ≡ slice_index_or self.now.jobs console None }
     {
-        if console < CONSOLES as u64 {
-            self.jobs[console as usize]
-        } else {
-            None
-        }
+        self.jobs.get(console as usize).copied().flatten()
     }
 
     /// Gives a console a job, or none; a number that is no console's changes nothing.
     pub fn assign(&mut self, console: u64, job: Option<Job>)
         ensures { self.new.jobs ≡ slice_set self.old.jobs console job }
     {
+        // by an index: what `get_mut` lends out of a struct with a ghost field, the proof loses sight of
         if console < CONSOLES as u64 {
             self.jobs[console as usize] = job;
         }

@@ -4,6 +4,9 @@ ghost use Rattle.std.specs.Prelude.{◌≤◌};
 use crate::consoles::Consoles;
 use std::marker::PhantomData;
 
+// The most pages that an index has.
+pub(crate) const MOST_PAGES: usize = 4096;
+
 /// An index over a store, under an order of keys.
 pub struct Index<S, O> {
     pub(crate) store: S,

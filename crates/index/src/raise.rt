@@ -9,7 +9,7 @@ ghost use Rattle.index.specs.Indexes.{state_of};
 
 use crate::access::TOP_LEVEL;
 use crate::index::Index;
-use model::Answer;
+use model::{Answer, Done, Refusal};
 use order::{Key, Order};
 use page::{Entries, Entry, PageBuf, PageState};
 use store::Store;
@@ -21,16 +21,14 @@ fn root_over(root: u64, old: &PageBuf) -> PageBuf
 {
     let mut entries = Entries::new();
     entries.push(Entry {
-        key: Key { hi: 0, lo: 0 },
+        key: Key::default(),
         value: root,
     });
     PageBuf {
         state: PageState::Live,
         level: old.level + 1,
-        link: 0,
-        start: None,
-        end: None,
         entries,
+        ..PageBuf::default()
     }
 }
 
@@ -40,11 +38,7 @@ impl<S: Store, O: Order> Index<S, O> {
         ensures { JustWhere (can_rise self.now.fill (view (state_of S.words self.now) page))
             (λ b. page_of b ≡ view (state_of S.words self.now) page) result }
     {
-        let found = self.page(page)?;
-        match found.state {
-            PageState::Live if found.level < TOP_LEVEL => Some(found),
-            _ => None,
-        }
+        self.page(page).filter(|found| found.state == PageState::Live && found.level < TOP_LEVEL)
     }
 
     // Makes a page that was taken off the free chain the root over the old one; `next` is the page behind it.
@@ -65,17 +59,12 @@ impl<S: Store, O: Order> Index<S, O> {
         ensures state { state_of S.words self.new ≡ (raise (state_of S.words self.old)).after }
     {
         let root = self.root();
-        let Some(old) = self.page_below_top(root) else {
-            return Answer::Unreadable(root);
-        };
+        let old = self.page_below_top(root).ok_or(Refusal::Unreadable(root))?;
         if old.link == 0 {
-            return Answer::Nothing;
+            return Err(Refusal::Nothing);
         }
-        let (new, next) = match self.free_page() {
-            Ok(taken) => taken,
-            Err(refusal) => return refusal,
-        };
+        let (new, next) = self.free_page()?;
         self.put_root_over(root, &old, new, next);
-        Answer::Raised(new)
+        Ok(Done::Raised(new))
     }
 }

@@ -1,17 +1,16 @@
 //! Taking a free page, and the split of a full one.
 ghost use Rattle.std.specs.Prelude.{◌≡◌, true, length, Ok, Err, MatchResult};
-ghost use Rattle.order.specs.Refusals.{JustWhere};
 ghost use Rattle.page.specs.Buffers.{page_of};
 ghost use Rattle.page.specs.Entries.{list_of};
 ghost use Rattle.page.specs.Pages.{is_there};
-ghost use Rattle.model.specs.States.{view, free_page, is_free};
+ghost use Rattle.model.specs.States.{view, free_page};
 ghost use Rattle.model.specs.Splits.{first_key, upper_page, relinked, shortened, split_full};
 ghost use Rattle.index.specs.Indexes.{state_of};
 
 use crate::index::Index;
-use model::Answer;
+use model::{Answer, Done, Refusal};
 use order::{Key, Order};
-use page::{Entries, PageBuf, PageState, read_free, read_word};
+use page::{Entries, PageBuf, PageState, read_free};
 use store::Store;
 
 // The first key of some entries, zeros where there are none.
@@ -20,7 +19,7 @@ fn first_key(entries: &Entries) -> Key
 {
     match entries.as_slice() {
         [first, ..] => first.key,
-        [] => Key { hi: 0, lo: 0 },
+        [] => Key::default(),
     }
 }
 
@@ -46,23 +45,8 @@ fn split_off(page: &mut PageBuf, fill: u64, new: u64) -> PageBuf
 }
 
 impl<S: Store, O: Order> Index<S, O> {
-    // The page behind a free one in the chain, or `None` where the page is not free.
-    fn free_link(&self, page: u64) -> Option<u64>
-        ensures { JustWhere (is_free (view (state_of S.words self.now) page).state)
-            (λ next. next ≡ (view (state_of S.words self.now) page).link) result }
-    {
-        if page == 0 || page >= self.pages || page >= self.store.length() / 64 {
-            return None;
-        }
-        if read_word(&self.store, 64 * page) == 0 {
-            Some(read_word(&self.store, 64 * page + 3))
-        } else {
-            None
-        }
-    }
-
     // The first free page and the one behind it, or why there is none.
-    pub(crate) fn free_page(&self) -> Result<(u64, u64), Answer>
+    pub(crate) fn free_page(&self) -> Result<(u64, u64), Refusal>
         ensures { MatchResult result
             (λ taken. (free_page (state_of S.words self.now) ≡ Ok taken.0)
             × (is_there (S.words self.now.store) taken.0 ≡ true)
@@ -71,12 +55,12 @@ impl<S: Store, O: Order> Index<S, O> {
     {
         let head = read_free(&self.store);
         if head == 0 {
-            return Err(Answer::NoFreePage);
+            return Err(Refusal::NoFreePage);
         }
-        match self.free_link(head) {
-            Some(next) => Ok((head, next)),
-            None => Err(Answer::Unreadable(head)),
+        if self.state_at(head) != PageState::Free {
+            return Err(Refusal::Unreadable(head));
         }
+        Ok((head, self.link_at(head)))
     }
 
     // Splits a full page, if there is a free page for it.
@@ -89,16 +73,13 @@ impl<S: Store, O: Order> Index<S, O> {
             ≡ (split_full page (view (state_of S.words self.old) page)
             (state_of S.words self.old)).after }
     {
-        let (new, next) = match self.free_page() {
-            Ok(taken) => taken,
-            Err(refusal) => return refusal,
-        };
+        let (new, next) = self.free_page()?;
         let root = self.root();
         let mut lower = buf;
         let upper = split_off(&mut lower, self.fill, new);
         self.save(new, &upper);
         self.save(page, &lower);
         self.save_head(next, root);
-        Answer::Split(new)
+        Ok(Done::Split(new))
     }
 }

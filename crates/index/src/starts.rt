@@ -6,11 +6,10 @@ ghost use Rattle.model.specs.Starts.{format, attach, made, format_words, free_ch
 ghost use Rattle.model.specs.Upkeep.{free_page_to};
 ghost use Rattle.index.specs.Indexes.{state_of};
 
-use crate::index::Index;
-use model::Answer;
+use crate::index::{Index, MOST_PAGES};
+use model::{Answer, Done, Refusal};
 use order::Order;
-use page::layout::PAGE_WORDS;
-use page::{Entries, HeadBuf, PageBuf, PageState, read_word, write_head, write_page};
+use page::{HEAD_MARK, HeadBuf, PAGE_WORDS, PageBuf, PageState, read_word, write_head, write_page};
 use store::Store;
 
 // Page 0 and the root.
@@ -18,14 +17,9 @@ const LEAST_PAGES: u64 = 2;
 
 const LEAST_WORDS: u64 = 128;
 
-const MOST_PAGES: u64 = 4096;
-
 const LEAST_FILL: u64 = 4;
 
 const MOST_FILL: u64 = 18;
-
-// Word 0 of page 0.
-const HEAD_MARK: u64 = 3;
 
 const FIRST_ROOT: u64 = 1;
 
@@ -34,14 +28,14 @@ const FIRST_FREE: u64 = 2;
 fn is_fill(fill: u64) -> bool
     ensures { result ≡ is_fill fill }
 {
-    fill >= LEAST_FILL && fill <= MOST_FILL
+    (LEAST_FILL..=MOST_FILL).contains(&fill)
 }
 
 // The pages of a store, of which an index takes no more than it may have.
 fn pages_in<S: Store>(store: &S) -> u64
     ensures { result ≡ pages_in (S.words store.now) }
 {
-    (store.length() / PAGE_WORDS as u64).min(MOST_PAGES)
+    (store.length() / PAGE_WORDS as u64).min(MOST_PAGES as u64)
 }
 
 // The page after one, or 0 after the last.
@@ -58,11 +52,7 @@ fn empty_leaf() -> PageBuf
 {
     PageBuf {
         state: PageState::Live,
-        level: 0,
-        link: 0,
-        start: None,
-        end: None,
-        entries: Entries::new(),
+        ..PageBuf::default()
     }
 }
 
@@ -72,11 +62,8 @@ pub(crate) fn free_page_to(next: u64) -> PageBuf
 {
     PageBuf {
         state: PageState::Free,
-        level: 0,
         link: next,
-        start: None,
-        end: None,
-        entries: Entries::new(),
+        ..PageBuf::default()
     }
 }
 
@@ -126,15 +113,15 @@ impl<S: Store, O: Order> Index<S, O> {
             ≡ (format fill (state_of S.words self.old)).after }
     {
         if self.store.length() < LEAST_WORDS {
-            return Answer::StoreTooSmall;
+            return Err(Refusal::StoreTooSmall);
         }
         if !is_fill(fill) {
-            return Answer::NoFill;
+            return Err(Refusal::NoFill);
         }
         let pages = pages_in(&self.store);
         lay_pages(&mut self.store, pages, fill);
         self.start(pages, fill);
-        Answer::Made(pages)
+        Ok(Done::Made(pages))
     }
 
     // Takes up the index that stands on the store.
@@ -143,17 +130,17 @@ impl<S: Store, O: Order> Index<S, O> {
         ensures state { state_of S.words self.new ≡ (attach (state_of S.words self.old)).after }
     {
         if self.store.length() < LEAST_WORDS {
-            return Answer::StoreTooSmall;
+            return Err(Refusal::StoreTooSmall);
         }
         let mark = read_word(&self.store, 0);
         let pages = read_word(&self.store, 1);
         let fill = read_word(&self.store, 2);
         let most = pages_in(&self.store);
-        if mark == HEAD_MARK && (pages >= LEAST_PAGES && pages <= most) && is_fill(fill) {
+        if mark == HEAD_MARK && (LEAST_PAGES..=most).contains(&pages) && is_fill(fill) {
             self.start(pages, fill);
-            Answer::Made(pages)
+            Ok(Done::Made(pages))
         } else {
-            Answer::NoIndex
+            Err(Refusal::NoIndex)
         }
     }
 }

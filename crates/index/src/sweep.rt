@@ -1,6 +1,5 @@
 //! Sweep: the gone pages that nothing leads to any more are free again.
 ghost use Rattle.std.specs.Prelude.{◌≡◌, true, length};
-ghost use Rattle.order.specs.Refusals.{JustWhere};
 ghost use Rattle.page.specs.Buffers.{page_of};
 ghost use Rattle.page.specs.Pages.{is_there};
 ghost use Rattle.model.specs.States.{view, is_gone};
@@ -9,63 +8,38 @@ ghost use Rattle.index.specs.Indexes.{state_of};
 ghost use Rattle.index.specs.Sweeps.{MarkedBelow, all_unreached};
 
 use crate::consoles::{CONSOLES, is_on};
-use crate::index::Index;
-use model::Answer;
+use crate::index::{Index, MOST_PAGES};
+use crate::starts::free_page_to;
+use model::{Answer, Done, Refusal};
 use order::Order;
-use page::{Entries, PageBuf, PageState, read_free, read_word};
+use page::{PageState, read_free};
 use store::Store;
 
-// The most pages that an index has.
-const MOST_PAGES: usize = 4096;
-
-// A free page that points to the next one.
-fn free_page_to(next: u64) -> PageBuf
-    ensures { page_of result ≡ free_page_to next }
-{
-    PageBuf {
-        state: PageState::Free,
-        level: 0,
-        link: next,
-        start: None,
-        end: None,
-        entries: Entries::new(),
-    }
-}
-
 impl<S: Store, O: Order> Index<S, O> {
-    // The page that a gone page points to. Only its words 0 and 3 are read.
-    fn gone_link(&self, page: u64) -> Option<u64>
-        ensures { JustWhere (is_gone (view (state_of S.words self.now) page).state)
-            (λ link. link ≡ (view (state_of S.words self.now) page).link) result }
+    // Whether a page was merged into another.
+    fn is_gone(&self, page: u64) -> bool
+        ensures { result ≡ is_gone (view (state_of S.words self.now) page).state }
     {
-        if !self.has(page) {
-            return None;
-        }
-        match PageState::from_word(read_word(&self.store, 64 * page)) {
-            PageState::Gone => Some(read_word(&self.store, 64 * page + 3)),
-            PageState::Free | PageState::Live | PageState::Damaged => None,
-        }
+        self.state_at(page) == PageState::Gone
     }
 
     // Whether one page is gone and points to another.
     fn points_to(&self, from: u64, page: u64) -> bool
         ensures { result ≡ points_to page (view (state_of S.words self.now) from) }
     {
-        match self.gone_link(from) {
-            Some(link) => link == page,
-            None => false,
-        }
+        self.is_gone(from) && self.link_at(from) == page
     }
 
     // Marks the gone pages on which no job stands and to which no gone page points.
+    // A loop with inner scans, left by its label, and no chain: the project fixes this shape for the sweep.
     fn unreached(&self) -> [bool; MOST_PAGES]
         ensures { MarkedBelow (state_of S.words self.now) self.now.pages result }
     {
         let mut marked = [false; MOST_PAGES];
         'pages: for page in 1..self.pages {
-            let Some(_) = self.gone_link(page) else {
+            if !self.is_gone(page) {
                 continue 'pages;
-            };
+            }
             for console in 0..CONSOLES as u64 {
                 if is_on(self.consoles.job(console), page) {
                     continue 'pages;
@@ -100,9 +74,9 @@ impl<S: Store, O: Order> Index<S, O> {
             ≡ give_back_all (all_unreached (state_of S.words self.old)) (state_of S.words self.old) }
     {
         let mut freed = 0;
-        for page in 1..self.pages {
-            if marked[page as usize] {
-                self.give_back(page);
+        for (page, is_marked) in marked[..self.pages as usize].iter().enumerate() {
+            if *is_marked {
+                self.give_back(page as u64);
                 freed += 1;
             }
         }
@@ -116,8 +90,8 @@ impl<S: Store, O: Order> Index<S, O> {
     {
         let marked = self.unreached();
         match self.free_marked(&marked) {
-            0 => Answer::Nothing,
-            freed => Answer::Swept(freed),
+            0 => Err(Refusal::Nothing),
+            freed => Ok(Done::Swept(freed)),
         }
     }
 }

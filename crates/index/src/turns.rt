@@ -6,17 +6,16 @@ ghost use Rattle.page.specs.Pages.{is_there};
 ghost use Rattle.model.specs.Entries.{find, insert, remove};
 ghost use Rattle.model.specs.States.{view, with_job};
 ghost use Rattle.model.specs.Turns.{turn, turn_state, is_past, child_of, job_at};
-ghost use Rattle.model.specs.declared.answers.Answer.TheVariants.{Moved, Entered, Struck};
+ghost use Rattle.model.specs.declared.answers.Done.TheVariants.{Moved, Entered, Struck};
 ghost use Rattle.index.specs.Jobs.{sent_to};
 ghost use Rattle.index.specs.Turns.{entered, struck};
 ghost use Rattle.index.specs.Indexes.{state_of, rule_of};
 ghost use Rattle.index.specs.Searches.{PlaceFor, TakenAt};
 
-use crate::consoles::CONSOLES;
 use crate::index::Index;
 use model::Kind::{Enter, Look, Strike};
-use model::{Answer, Job};
-use order::{Comparison, Key, Order};
+use model::{Answer, Done, Job, Refusal};
+use order::{Key, Order};
 use page::PageState::{Damaged, Free, Gone, Live};
 use page::{Entries, Entry, PageBuf};
 use store::Store;
@@ -25,26 +24,17 @@ use store::Store;
 fn is_past<O: Order>(page: &PageBuf, key: Key) -> bool
     ensures { result ≡ is_past (rule_of O.keyed O.compared) key page.now.end }
 {
-    match page.end {
-        None => false,
-        Some(end) => match O::compare(key, end) {
-            Comparison::Before => false,
-            Comparison::Same | Comparison::After => true,
-        },
-    }
+    page.end.is_some_and(|end| O::compare(key, end).is_ge())
 }
 
 // The value that is held for a key.
 fn find<O: Order>(entries: &[Entry], key: Key) -> Option<u64>
     ensures { result ≡ find (rule_of O.keyed O.compared) key entries.now }
 {
-    for held in entries {
-        match O::compare(held.key, key) {
-            Comparison::Same => return Some(held.value),
-            Comparison::Before | Comparison::After => {}
-        }
-    }
-    None
+    entries
+        .iter()
+        .find(|held| O::compare(held.key, key).is_eq())
+        .map(|held| held.value)
 }
 
 // The page to which an inner page sends a key: that of the last entry whose key is not after it.
@@ -55,40 +45,32 @@ fn child_of<O: Order>(entries: &[Entry], key: Key) -> u64
     let [first, rest @ ..] = entries else {
         return 0;
     };
-    let mut child = first.value;
-    for held in rest {
-        match O::compare(held.key, key) {
-            Comparison::Before | Comparison::Same => child = held.value,
-            Comparison::After => {}
+    rest.iter().fold(first.value, |child, held| {
+        if O::compare(held.key, key).is_le() {
+            held.value
+        } else {
+            child
         }
-    }
-    child
+    })
 }
 
 // Where an entry goes: before the first that is after it.
 fn place_for<O: Order>(entries: &[Entry], new: Entry) -> usize
     ensures { PlaceFor (rule_of O.keyed O.compared) new entries.now result }
 {
-    for (at, held) in entries.iter().enumerate() {
-        match O::compare(held.key, new.key) {
-            Comparison::Before | Comparison::Same => {}
-            Comparison::After => return at,
-        }
-    }
-    entries.len()
+    entries
+        .iter()
+        .position(|held| O::compare(held.key, new.key).is_gt())
+        .unwrap_or(entries.len())
 }
 
 // Where the entry for a key stands.
 fn place_of<O: Order>(entries: &[Entry], key: Key) -> Option<usize>
     ensures { TakenAt (rule_of O.keyed O.compared) key entries.now result }
 {
-    for (at, held) in entries.iter().enumerate() {
-        match O::compare(held.key, key) {
-            Comparison::Same => return Some(at),
-            Comparison::Before | Comparison::After => {}
-        }
-    }
-    None
+    entries
+        .iter()
+        .position(|held| O::compare(held.key, key).is_eq())
 }
 
 // Puts an entry in among others that leave room for it.
@@ -113,31 +95,31 @@ fn take_out<O: Order>(entries: &mut Entries, key: Key)
 
 impl<S: Store, O: Order> Index<S, O> {
     // Sends a console's job to another page.
-    fn go(&mut self, console: u64, page: u64) -> Answer
-        ensures answer { result ≡ Moved page }
+    fn go(&mut self, console: u64, page: u64) -> Done
+        ensures done { result ≡ Moved page }
         ensures state { state_of S.words self.new
             ≡ with_job console (sent_to page (job_at (state_of S.words self.old) console))
             (state_of S.words self.old) }
     {
         self.consoles.send(console, page);
-        Answer::Moved(page)
+        Done::Moved(page)
     }
 
-    // Finishes a console's job with an answer.
-    fn finish(&mut self, console: u64, answer: Answer) -> Answer
-        ensures answer { result ≡ answer }
+    // Finishes a console's job, of which something is done.
+    fn finish(&mut self, console: u64, done: Done) -> Done
+        ensures done { result ≡ done }
         ensures state { state_of S.words self.new
             ≡ with_job console None (state_of S.words self.old) }
     {
         self.consoles.assign(console, None);
-        answer
+        done
     }
 
     // Puts a job's entry into the leaf on which it stands, which has room for it.
-    fn enter(&mut self, console: u64, job: Job, leaf: PageBuf) -> Answer
+    fn enter(&mut self, console: u64, job: Job, leaf: PageBuf) -> Done
         requires there { is_there (S.words self.old.store) job.page ≡ true }
         requires room { length (list_of leaf.entries) < 18 }
-        ensures answer { result ≡ Entered }
+        ensures done { result ≡ Entered }
         ensures state { state_of S.words self.new
             ≡ entered (rule_of O.keyed O.compared) console job (page_of leaf) (state_of S.words self.old) }
     {
@@ -148,20 +130,20 @@ impl<S: Store, O: Order> Index<S, O> {
         let mut with_entry = leaf;
         put_in::<O>(&mut with_entry.entries, entry);
         self.save(job.page, &with_entry);
-        self.finish(console, Answer::Entered)
+        self.finish(console, Done::Entered)
     }
 
     // Takes the entry for a job's key, whose value was found, out of the leaf on which it stands.
-    fn strike(&mut self, console: u64, job: Job, leaf: PageBuf, value: u64) -> Answer
+    fn strike(&mut self, console: u64, job: Job, leaf: PageBuf, value: u64) -> Done
         requires { is_there (S.words self.old.store) job.page ≡ true }
-        ensures answer { result ≡ Struck value }
+        ensures done { result ≡ Struck value }
         ensures state { state_of S.words self.new
             ≡ struck (rule_of O.keyed O.compared) console job (page_of leaf) (state_of S.words self.old) }
     {
         let mut without_entry = leaf;
         take_out::<O>(&mut without_entry.entries, job.task.key);
         self.save(job.page, &without_entry);
-        self.finish(console, Answer::Struck(value))
+        self.finish(console, Done::Struck(value))
     }
 
     // What a job does at the page on which it stands, by its kind and by the page's state, level and entries.
@@ -181,16 +163,16 @@ impl<S: Store, O: Order> Index<S, O> {
         let found = find::<O>(page.entries.as_slice(), key);
         let has_room = (page.entries.len() as u64) < self.fill;
         match (job.task.kind, page.state, page.level, found) {
-            (_, Free | Damaged, _, _) => Answer::Unreadable(job.page),
-            (_, Gone, _, _) => self.go(console, page.link),
-            (_, Live, _, _) if past_end => self.go(console, page.link),
-            (Look, Live, 0, Some(value)) => self.finish(console, Answer::Found(value)),
-            (Enter, Live, 0, Some(value)) => self.finish(console, Answer::Held(value)),
-            (Strike, Live, 0, Some(value)) => self.strike(console, job, page, value),
-            (Enter, Live, 0, None) if has_room => self.enter(console, job, page),
+            (_, Free | Damaged, _, _) => Err(Refusal::Unreadable(job.page)),
+            (_, Gone, _, _) => Ok(self.go(console, page.link)),
+            (_, Live, _, _) if past_end => Ok(self.go(console, page.link)),
+            (Look, Live, 0, Some(value)) => Ok(self.finish(console, Done::Found(value))),
+            (Enter, Live, 0, Some(value)) => Ok(self.finish(console, Done::Held(value))),
+            (Strike, Live, 0, Some(value)) => Ok(self.strike(console, job, page, value)),
+            (Enter, Live, 0, None) if has_room => Ok(self.enter(console, job, page)),
             (Enter, Live, 0, None) => self.split_full(job.page, page),
-            (Look | Strike, Live, 0, None) => self.finish(console, Answer::Absent),
-            (_, Live, _, _) => self.go(console, child_of::<O>(page.entries.as_slice(), key)),
+            (Look | Strike, Live, 0, None) => Ok(self.finish(console, Done::Absent)),
+            (_, Live, _, _) => Ok(self.go(console, child_of::<O>(page.entries.as_slice(), key))),
         }
     }
 
@@ -201,15 +183,8 @@ impl<S: Store, O: Order> Index<S, O> {
         ensures state { state_of S.words self.new
             ≡ (turn (rule_of O.keyed O.compared) console (state_of S.words self.old)).after }
     {
-        if console >= CONSOLES as u64 {
-            return Answer::NoConsole;
-        }
-        let Some(job) = self.consoles.job(console) else {
-            return Answer::Idle;
-        };
-        let Some(page) = self.page(job.page) else {
-            return Answer::Unreadable(job.page);
-        };
+        let job = self.job_of(console)?.ok_or(Refusal::Idle)?;
+        let page = self.page(job.page).ok_or(Refusal::Unreadable(job.page))?;
         self.turn_on(console, job, page)
     }
 }

@@ -3,7 +3,6 @@ ghost use Rattle.std.specs.Prelude.{◌≡◌, ◌+◌, ◌<◌, ◌≤◌, true
 ghost use Rattle.order.specs.Refusals.{JustWhere};
 ghost use Rattle.page.specs.Buffers.{page_of};
 ghost use Rattle.page.specs.Entries.{list_of};
-ghost use Rattle.page.specs.Pages.{bound_key};
 ghost use Rattle.model.specs.States.{view, readable};
 ghost use Rattle.model.specs.Upkeep.{is_inner, is_child, wrong_child};
 ghost use Rattle.model.specs.Upkeep.{is_small, merge_pair, joined as joined_page, gone_into, child_at, entry_out};
@@ -15,9 +14,9 @@ ghost use Rattle.index.specs.Parents.{ReadParent, IsParent};
 ghost use Rattle.index.specs.Pairs.{takes_next, children_merged, neighbour_entry};
 
 use crate::index::Index;
-use model::Answer;
-use order::{Comparison, Key, Order};
-use page::{Entries, Entry, PageBuf, PageState};
+use model::{Answer, Done, Refusal};
+use order::{Key, Order};
+use page::{Entry, PageBuf, PageState};
 use store::Store;
 
 // Whether two pages may become one: half of a full page's entries at most, or one of them without any.
@@ -53,10 +52,7 @@ fn joined(left: &PageBuf, right: &PageBuf) -> PageBuf
 fn child_at(page: &PageBuf, at: usize) -> u64
     ensures { result ≡ child_at (list_of page.now.entries) at }
 {
-    match page.entries.get(at) {
-        Some(entry) => entry.value,
-        None => 0,
-    }
+    page.entries.get(at).map_or(0, |entry| entry.value)
 }
 
 // A page without the entry at a place.
@@ -70,24 +66,13 @@ fn without_entry(page: &PageBuf, at: usize) -> PageBuf
     without
 }
 
-// The key of a page's end, zeros for none.
-fn bound_key(bound: Option<Key>) -> Key
-    ensures { result ≡ bound_key bound }
-{
-    match bound {
-        Some(key) => key,
-        None => Key { hi: 0, lo: 0 },
-    }
-}
-
 // The key of the entry at a place, and behind the last the page's end.
 fn key_from(page: &PageBuf, at: usize) -> Option<Key>
     ensures { result ≡ following page.now.end (drop at (list_of page.now.entries)) }
 {
-    match page.entries.get(at) {
-        Some(entry) => Some(entry.key),
-        None => page.end,
-    }
+    page.entries
+        .get(at)
+        .map_or(page.end, |entry| Some(entry.key))
 }
 
 // A page with an entry more, of a child's end and right neighbour, behind the child's own.
@@ -100,7 +85,7 @@ fn posted(page: &PageBuf, at: usize, child: &PageBuf) -> PageBuf
 {
     let mut posted = *page;
     let entry = Entry {
-        key: bound_key(child.end),
+        key: child.end.unwrap_or_default(),
         value: child.link,
     };
     posted.entries.insert(at + 1, entry);
@@ -116,8 +101,7 @@ fn gone_into(page: u64, merged: &PageBuf) -> PageBuf
         level: merged.level,
         link: page,
         start: merged.start,
-        end: None,
-        entries: Entries::new(),
+        ..PageBuf::default()
     }
 }
 
@@ -127,11 +111,8 @@ impl<S: Store, O: Order> Index<S, O> {
         ensures { JustWhere (is_inner self.now.fill (view (state_of S.words self.now) page))
             (λ b. page_of b ≡ view (state_of S.words self.now) page) result }
     {
-        let found = self.page(page)?;
-        match found.state {
-            PageState::Live if found.level > 0 => Some(found),
-            _ => None,
-        }
+        self.page(page)
+            .filter(|found| found.state == PageState::Live && found.level > 0)
     }
 
     // Whether a page is live, and one level below a parent of this level.
@@ -139,13 +120,8 @@ impl<S: Store, O: Order> Index<S, O> {
         ensures { result
             ≡ is_child self.now.fill level (view (state_of S.words self.now) page) }
     {
-        let Some(found) = self.page(page) else {
-            return false;
-        };
-        match found.state {
-            PageState::Live => level > 0 && found.level == level - 1,
-            PageState::Free | PageState::Gone | PageState::Damaged => false,
-        }
+        matches!(self.page(page), Some(found)
+            if found.state == PageState::Live && level > 0 && found.level == level - 1)
     }
 
     // The first entry of an inner page that leads to no child of it.
@@ -166,15 +142,14 @@ impl<S: Store, O: Order> Index<S, O> {
         requires { wrong_child (state_of S.words self.now) page.now.level (list_of page.now.entries) ≡ None }
         ensures { result ≡ merge_pair (state_of S.words self.now) (list_of page.now.entries) }
     {
-        let entries = page.entries.as_slice();
-        if entries.is_empty() {
+        let [first, rest @ ..] = page.entries.as_slice() else {
             return None;
-        }
-        let mut left = self.page(entries[0].value)?;
-        for i in 1..entries.len() {
-            let right = self.page(entries[i].value)?;
-            if takes_next(self.fill, &left, entries[i].value, &right) {
-                return Some(i - 1);
+        };
+        let mut left = self.page(first.value)?;
+        for (at, entry) in rest.iter().enumerate() {
+            let right = self.page(entry.value)?;
+            if takes_next(self.fill, &left, entry.value, &right) {
+                return Some(at);
             }
             left = right;
         }
@@ -191,44 +166,38 @@ impl<S: Store, O: Order> Index<S, O> {
             ≡ children_merged left right (state_of S.words self.old) }
         ensures long { length (S.words self.new.store) ≡ length (S.words self.old.store) }
     {
-        // both were read before, so neither is missing here
-        let Some(first) = self.page(left) else {
-            return;
-        };
-        let Some(second) = self.page(right) else {
-            return;
-        };
+        let first = self.page(left).unwrap();
+        let second = self.page(right).unwrap();
         self.save(left, &joined(&first, &second));
         self.save(right, &gone_into(left, &second));
     }
 
     // An inner page whose children can all be worked on, or why there is none.
-    fn parent(&self, page: u64) -> Result<PageBuf, Answer>
+    fn parent(&self, page: u64) -> Result<PageBuf, Refusal>
         ensures { ReadParent (state_of S.words self.now) page result }
     {
-        let Some(found) = self.inner_page(page) else {
-            return Err(Answer::NoInner);
-        };
+        let found = self.inner_page(page).ok_or(Refusal::NoInner)?;
         match self.wrong_child(&found) {
-            Some(child) => Err(Answer::Unreadable(child)),
+            Some(child) => Err(Refusal::Unreadable(child)),
             None => Ok(found),
         }
     }
 
     // Merges the child at a place with the next one, and then takes that one's entry out of their parent.
-    fn merge_at(&mut self, page: u64, parent: &PageBuf, at: usize) -> Answer
+    #[tactic(auto, using(crate::proofs::Merging::parent_there))]
+    fn merge_at(&mut self, page: u64, parent: &PageBuf, at: usize) -> Done
         requires parent { IsParent (state_of S.words self.old) page (page_of parent.now) }
         requires pair { merge_pair (state_of S.words self.old) (list_of parent.now.entries) ≡ Some at }
-        ensures answer { result
+        ensures done { Ok result
             ≡ (merge_at page (page_of parent.now) (Some at) (state_of S.words self.old)).answer }
         ensures state { state_of S.words self.new
             ≡ (merge_at page (page_of parent.now) (Some at) (state_of S.words self.old)).after }
     {
-        let left = child_at(parent, at);
-        let right = child_at(parent, at + 1);
+        let next = at + 1;
+        let (left, right) = (child_at(parent, at), child_at(parent, next));
         self.merge_children(left, right);
-        self.save(page, &without_entry(parent, at + 1));
-        Answer::Merged(right)
+        self.save(page, &without_entry(parent, next));
+        Done::Merged(right)
     }
 
     // Makes one page of the first two neighbouring children that have room in one.
@@ -237,14 +206,9 @@ impl<S: Store, O: Order> Index<S, O> {
         ensures state { state_of S.words self.new
             ≡ (merge page (state_of S.words self.old)).after }
     {
-        let parent = match self.parent(page) {
-            Ok(parent) => parent,
-            Err(refusal) => return refusal,
-        };
-        match self.merge_pair(&parent) {
-            Some(at) => self.merge_at(page, &parent, at),
-            None => Answer::Nothing,
-        }
+        let parent = self.parent(page)?;
+        let at = self.merge_pair(&parent).ok_or(Refusal::Nothing)?;
+        Ok(self.merge_at(page, &parent, at))
     }
 
     // Whether a child's end lies before what follows its entry. No end is after every key.
@@ -254,7 +218,7 @@ impl<S: Store, O: Order> Index<S, O> {
         match (end, next) {
             (None, _) => false,
             (Some(_), None) => true,
-            (Some(end), Some(next)) => matches!(O::compare(end, next), Comparison::Before),
+            (Some(end), Some(next)) => O::compare(end, next).is_lt(),
         }
     }
 
@@ -264,17 +228,17 @@ impl<S: Store, O: Order> Index<S, O> {
         ensures { result ≡ short_child (rule_of O.keyed O.compared) (state_of S.words self.now)
             page.now.end (list_of page.now.entries) }
     {
-        let entries = page.entries.as_slice();
-        for i in 0..entries.len() {
-            let child = self.page(entries[i].value)?;
-            if Self::ends_short(child.end, key_from(page, i + 1)) {
-                return Some(i);
+        for (at, entry) in page.entries.as_slice().iter().enumerate() {
+            let child = self.page(entry.value)?;
+            if Self::ends_short(child.end, key_from(page, at + 1)) {
+                return Some(at);
             }
         }
         None
     }
 
     // Puts an entry of a child's end and right neighbour behind the child's own. A full page is split instead.
+    #[tactic(auto, using(crate::proofs::Merging::parent_there, crate::proofs::Posting::short_within))]
     fn post_at(&mut self, page: u64, parent: &PageBuf, at: usize) -> Answer
         requires parent { IsParent (state_of S.words self.old) page (page_of parent.now) }
         requires short { short_child (rule_of O.keyed O.compared) (state_of S.words self.old) parent.now.end
@@ -288,12 +252,9 @@ impl<S: Store, O: Order> Index<S, O> {
         if parent.entries.len() as u64 >= self.fill {
             return self.split_full(page, *parent);
         }
-        // it was read before, so it is not missing here
-        let Some(child) = self.page(child_at(parent, at)) else {
-            return Answer::Nothing;
-        };
+        let child = self.page(child_at(parent, at)).unwrap();
         self.save(page, &posted(parent, at, &child));
-        Answer::Posted(child.link)
+        Ok(Done::Posted(child.link))
     }
 
     // Gives the right neighbour of the first child that ends short an entry of its own.
@@ -302,13 +263,8 @@ impl<S: Store, O: Order> Index<S, O> {
         ensures state { state_of S.words self.new
             ≡ (post (rule_of O.keyed O.compared) page (state_of S.words self.old)).after }
     {
-        let parent = match self.parent(page) {
-            Ok(parent) => parent,
-            Err(refusal) => return refusal,
-        };
-        match self.short_child(&parent) {
-            Some(at) => self.post_at(page, &parent, at),
-            None => Answer::Nothing,
-        }
+        let parent = self.parent(page)?;
+        let at = self.short_child(&parent).ok_or(Refusal::Nothing)?;
+        self.post_at(page, &parent, at)
     }
 }

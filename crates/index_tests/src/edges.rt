@@ -1,17 +1,8 @@
 //! What is refused, and what is just accepted.
+use crate::loads::{ENTER, LOOK, Loads, at, enter};
 use index::Index;
-use order::{Key, LoadOrder};
+use order::Key;
 use store::words::WordStore;
-
-const LOOK: u64 = 1;
-
-const ENTER: u64 = 2;
-
-type Loads<'a> = Index<WordStore<'a>, LoadOrder>;
-
-fn at(second: u64) -> Key {
-    Key { hi: 7, lo: second }
-}
 
 #[test]
 fn smallest_store(rt: HostRuntime) {
@@ -74,20 +65,15 @@ fn jobs(rt: HostRuntime) {
     assert_eq!(rt; ended, [(6, 0), (4, 0), (6, 0), (4, 0), (28, 1)]);
 }
 
-fn enter_four(index: &mut Loads) {
-    for n in 1..5u64 {
-        index.begin(0, ENTER, at(n), n);
-        index.turn(0);
-    }
-}
-
 // The fifth enter has no page to split into; its job waits and loses nothing.
 #[test]
 fn full_store(rt: HostRuntime) {
     let mut words = [0u64; 128];
     let mut index: Loads = Index::new(WordStore::new(&mut words));
     index.format(4);
-    enter_four(&mut index);
+    for second in 1..5 {
+        enter(&mut index, second, second);
+    }
     index.begin(0, ENTER, at(5), 5);
     index.begin(1, LOOK, at(4), 0);
     let fifth = [index.turn(0), index.turn(0), index.turn(1)];

@@ -1,27 +1,13 @@
 //! An index attached to words that no index wrote: page 0 is tested, and a damaged page is told when a call meets it.
+use crate::loads::{ENTER, LOOK, Loads, at};
 use index::Index;
-use order::{Key, LoadOrder};
 use store::words::WordStore;
 
-const LOOK: u64 = 1;
-
-const ENTER: u64 = 2;
-
-type Loads<'a> = Index<WordStore<'a>, LoadOrder>;
-
-fn at(second: u64) -> Key {
-    Key { hi: 7, lo: second }
-}
-
-// Two pages: page 0 describes them, page 1 is given by its first four words.
+// Two pages: page 0 describes them in its first five words, page 1 is given by its first four.
 fn two_pages(head: [u64; 5], page: [u64; 4]) -> [u64; 128] {
     let mut words = [0u64; 128];
-    for n in 0..5usize {
-        words[n] = head[n];
-    }
-    for n in 0..4usize {
-        words[64 + n] = page[n];
-    }
+    words[..5].copy_from_slice(&head);
+    words[64..68].copy_from_slice(&page);
     words
 }
 

@@ -6,4 +6,6 @@ mod edges;
 #[cfg(test)]
 mod garbage;
 #[cfg(test)]
+mod loads;
+#[cfg(test)]
 mod truck_seven;

@@ -1,25 +1,12 @@
 //! Truck 7 on eight pages with fill 4: a split and a merge under jobs that stand on the page.
+use crate::loads::{ENTER, LOOK, Loads, STRIKE, at, enter};
 use index::Index;
-use order::{Key, LoadOrder};
 use store::words::WordStore;
-
-const LOOK: u64 = 1;
-
-const ENTER: u64 = 2;
-
-const STRIKE: u64 = 3;
-
-type Loads<'a> = Index<WordStore<'a>, LoadOrder>;
-
-fn at(second: u64) -> Key {
-    Key { hi: 7, lo: second }
-}
 
 // Seconds 10 to 40 in tens hold 100 to 400.
 fn enter_four(index: &mut Loads) {
     for n in 1..5u64 {
-        index.begin(0, ENTER, at(10 * n), 100 * n);
-        index.turn(0);
+        enter(index, 10 * n, 100 * n);
     }
 }
 

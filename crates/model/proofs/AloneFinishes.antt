@@ -6,7 +6,7 @@ use Rattle.order.specs.Laws.{Lawful}
 use Rattle.page.specs.declared.pages.PageState.{PageState}
 use Rattle.page.specs.declared.pages.PageState.TheVariants.{Free, Live, Gone, Damaged}
 use Rattle.page.specs.Pages.{Page}
-use Rattle.model.specs.declared.answers.Answer.{Answer}
+use Rattle.model.specs.declared.answers.Refusal.{Refusal}
 use Rattle.model.specs.declared.jobs.Job.{Job}
 use Rattle.model.specs.declared.jobs.Kind.{Kind}
 use Rattle.model.specs.declared.jobs.Kind.TheVariants.{Look, Enter, Strike}
@@ -46,7 +46,7 @@ module _ (o : KeyOrder) (c : ℕ) (console : c < 32) where
           consoles = length-set s.jobs c (Some (on_page j p)) ∙ h.consoles;
         })
 
-    splits : (p : ℕ) (x : Page) (m : Result ℕ Answer) → FinishesOrHolds (split_into p x m s)
+    splits : (p : ℕ) (x : Page) (m : Result ℕ Refusal) → FinishesOrHolds (split_into p x m s)
     splits p x (Ok n) = inr (record { job = h.job; own = h.own; consoles = h.consoles })
     splits p x (Err a) = inr h
 

@@ -7,7 +7,7 @@ use Rattle.order.specs.Laws.{Lawful}
 use Rattle.page.specs.declared.pages.PageState.{PageState}
 use Rattle.page.specs.declared.pages.PageState.TheVariants.{Free, Live, Gone, Damaged}
 use Rattle.page.specs.Pages.{Page}
-use Rattle.model.specs.declared.answers.Answer.TheVariants.{NoConsole, Unreadable}
+use Rattle.model.specs.declared.answers.Refusal.TheVariants.{NoConsole, Unreadable}
 use Rattle.model.specs.declared.jobs.Job.{Job}
 use Rattle.model.specs.Entries.{KeyOrder}
 use Rattle.model.specs.States.{State, Outcome, view, with_job, refused, readable, has_form}

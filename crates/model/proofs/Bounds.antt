@@ -1,6 +1,5 @@
 -- Bounds, where pages start and end: a key, or an end of the row of all keys. Their order, and its test.
-use Rattle.std.proofs.Common.{◌≡◌, Bool, true, false, ◌⊎◌, Some, None, Option, inl, inr, arith}
-use Rattle.order.specs.declared.keys.Comparison.TheVariants.{Before}
+use Rattle.std.proofs.Common.{◌≡◌, Bool, true, false, ◌⊎◌, Some, None, Option, inl, inr, arith, Less}
 use Rattle.order.specs.declared.keys.Key.{Key}
 use Rattle.order.specs.Comparisons.{not_after}
 use Rattle.order.specs.Laws.{Lawful}
@@ -48,7 +47,7 @@ module _ (o : KeyOrder) where
 
   -- one key is before another
   abbrev pub Before' : Key → Key → Type 0
-  Before' a b = o.compared a b ≡ Before
+  Before' a b = o.compared a b ≡ Less
 
   -- the first bound is strictly before the second
   abbrev pub Under : Bound → Bound → Type 0

@@ -1,9 +1,8 @@
 -- The promises of one call follow from those of all histories.
 use Rattle.std.proofs.Common.{◌≡◌, ℕ, ◌<◌, ◌≤◌, false, leb, List, ◌∷◌, length, sym, ap, ◌∙◌, subst, inl, inr, arith}
 use Rattle.std.proofs.lemmas.Bool.{cases_lt, cases_Bool, and_parts, leb-true, lt-ltb, le-ltb, cond-true, cond-false}
-use Rattle.model.specs.declared.answers.Answer.{Answer}
-use Rattle.model.specs.declared.answers.Answer.TheVariants.{StoreTooSmall, NoFill}
-use Rattle.model.specs.Answers.{code, figure}
+use Rattle.model.specs.declared.answers.Refusal.TheVariants.{StoreTooSmall, NoFill}
+use Rattle.model.specs.Answers.{Answer, code, figure}
 use Rattle.model.specs.Entries.{KeyOrder}
 use Rattle.model.specs.States.{State, Outcome, refused}
 use Rattle.model.specs.Starts.{is_fill, unmade, format}

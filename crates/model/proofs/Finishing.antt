@@ -1,13 +1,14 @@
 -- A job that is alone is finished in at most as many turns as there are pages, unless there is no page for a split.
-use Rattle.std.proofs.Common.{◌≡◌, ℕ, zero, suc, ◌+◌, ◌<◌, ◌≤◌, true, false, ltb, ◌⊎◌, length, take, Some, None, Option, Result, sym, refl, ap, ◌∙◌, subst, inl, inr, arith}
+use Rattle.std.proofs.Common.{◌≡◌, ℕ, zero, suc, ◌+◌, ◌<◌, ◌≤◌, true, false, ltb, ◌⊎◌, length, take, Some, None, Err, Option, Result, sym, refl, ap, ◌∙◌, subst, inl, inr, arith}
 use Rattle.std.proofs.lemmas.Bool.{lt-ltb, le-ltb, cond-true, cond-false, cases_Bool, cases_lt}
 use Rattle.std.proofs.lemmas.List.{length-set, get_or-set_same}
 use Rattle.order.specs.Laws.{Lawful}
 use Rattle.page.specs.declared.entries.Entry.{Entry}
 use Rattle.page.specs.declared.pages.PageState.TheVariants.{Free, Live}
 use Rattle.page.specs.Pages.{Page}
-use Rattle.model.specs.declared.answers.Answer.{Answer}
-use Rattle.model.specs.declared.answers.Answer.TheVariants.{NoFreePage, Entered}
+use Rattle.model.specs.declared.answers.Done.TheVariants.{Entered}
+use Rattle.model.specs.declared.answers.Refusal.{Refusal}
+use Rattle.model.specs.declared.answers.Refusal.TheVariants.{NoFreePage}
 use Rattle.model.specs.declared.jobs.Job.{Job}
 use Rattle.model.specs.declared.jobs.Kind.{Kind}
 use Rattle.model.specs.declared.jobs.Kind.TheVariants.{Look, Enter, Strike}
@@ -82,7 +83,7 @@ pub record FinishedAfter (o : KeyOrder) (c : ℕ) (s : State) : Type 0 where
 pub record Stopped (o : KeyOrder) (c : ℕ) (s : State) : Type 0 where
   pub after : ℕ
   pub few : after < s.pages
-  pub refusal : (turn o c (turned o c after s)).answer ≡ NoFreePage
+  pub refusal : (turn o c (turned o c after s)).answer ≡ Err NoFreePage
 
 -- the turn at a leaf with room is the last
 room_finishes : (o : KeyOrder) (c : ℕ) (console : c < 32) (s : State) (consoles : length s.jobs ≡ 32) (j : Job)
@@ -175,7 +176,7 @@ module _ {o : KeyOrder} (laws : Lawful o.keyed o.compared) (c : ℕ) (console : 
           done = ap (λ (u : State). job_at u c) last ∙ done;
         }
 
-    stopped_there : (turn o c there).answer ≡ NoFreePage → Stopped o c (holding c s j)
+    stopped_there : (turn o c there).answer ≡ Err NoFreePage → Stopped o c (holding c s j)
     stopped_there none =
         record {
           after = a.moves;
@@ -239,9 +240,9 @@ module _ {o : KeyOrder} (laws : Lawful o.keyed o.compared) (c : ℕ) (console : 
             (can_read_lem laws c console s consoles most tree job (live_held a.leaf.live))
             a.leaf.live a.leaf.within a.leaf.level
 
-        into : {r : Result ℕ Answer} → free_page s ≡ r
+        into : {r : Result ℕ Refusal} → free_page s ≡ r
             → split_full a.page x (there j a) ≡ split_into a.page x r (there j a)
-        into e = ap (λ (r : Result ℕ Answer). split_into a.page x r (there j a)) e
+        into e = ap (λ (r : Result ℕ Refusal). split_into a.page x r (there j a)) e
 
     -- a job that is alone is finished in at most as many turns as there are pages, or finds no page for a split
     pub alone_finishes : (j : Job) → job_at s c ≡ Some j → JobOk o (view s) j

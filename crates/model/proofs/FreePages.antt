@@ -3,8 +3,9 @@ use Rattle.std.proofs.Common.{◌≡◌, ℕ, ◌≤◌, true, ◌≢◌, ◌⊎
 use Rattle.std.proofs.lemmas.Bool.{eq-eqb, ne_eqb, cond-true, cond-false}
 use Rattle.order.specs.Laws.{Lawful}
 use Rattle.page.specs.declared.pages.PageState.TheVariants.{Free, Live}
-use Rattle.model.specs.declared.answers.Answer.{Answer}
-use Rattle.model.specs.declared.answers.Answer.TheVariants.{NoFreePage, Split}
+use Rattle.model.specs.declared.answers.Done.TheVariants.{Split}
+use Rattle.model.specs.declared.answers.Refusal.{Refusal}
+use Rattle.model.specs.declared.answers.Refusal.TheVariants.{NoFreePage}
 use Rattle.model.specs.Entries.{KeyOrder}
 use Rattle.model.specs.States.{State, Outcome, answered, view, root, free_head, free_page, is_free}
 use Rattle.model.specs.Splits.{split, split_into, split_full}
@@ -66,9 +67,9 @@ split_full_lem {o} laws s r inv agrees p live full =
       | inr take ↦ given take.takes (record { quiet = done take; goes = refl })
     ]
   where
-    given : {m : Result ℕ Answer} → free_page s ≡ m → Unfinished o (split_into p (view s p) m s) r
+    given : {m : Result ℕ Refusal} → free_page s ≡ m → Unfinished o (split_into p (view s p) m s) r
         → Unfinished o (split_full p (view s p) s) r
-    given e h = subst (λ (m : Result ℕ Answer). Unfinished o (split_into p (view s p) m s) r) (sym e) h
+    given e h = subst (λ (m : Result ℕ Refusal). Unfinished o (split_into p (view s p) m s) r) (sym e) h
 
     done : Takes s → Quiet o (answered (Split (free_head s)) (split p (view s p) (free_head s) s)) r
     done take =

@@ -1,6 +1,5 @@
 -- What holds of every index after every history.
-use Rattle.std.proofs.Common.{◌≡◌, ℕ, zero, suc, ◌*◌, ◌<◌, ◌≤◌, true, false, cond, eqb, ◌≢◌, ◌⊎◌, List, [], ◌∷◌, length, Some, None, Option}
-use Rattle.order.specs.declared.keys.Comparison.TheVariants.{Before}
+use Rattle.std.proofs.Common.{◌≡◌, ℕ, zero, suc, ◌*◌, ◌<◌, ◌≤◌, true, false, cond, eqb, ◌≢◌, ◌⊎◌, List, [], ◌∷◌, length, Some, None, Option, Less}
 use Rattle.order.specs.declared.keys.Key.{Key}
 use Rattle.page.specs.declared.entries.Entry.{Entry}
 use Rattle.page.specs.declared.pages.PageState.TheVariants.{Live, Gone}
@@ -22,7 +21,7 @@ module _ (o : KeyOrder) where
   -- the keys are keys and rise strictly: each is before all that follow
   abbrev pub Sorted : List Entry → Type 0
   Sorted [] = Unit {0}
-  Sorted (e ∷ es) = IsKey o e.key × All (λ d. o.compared e.key d.key ≡ Before) es × Sorted es
+  Sorted (e ∷ es) = IsKey o e.key × All (λ d. o.compared e.key d.key ≡ Less) es × Sorted es
 
   -- a page's range covers a key
   pub record Covers (x : Page) (k : Key) : Type 0 where

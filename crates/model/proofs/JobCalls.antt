@@ -2,7 +2,7 @@
 use Rattle.std.proofs.Common.{◌≡◌, ℕ, Bool, ltb, Some, None, Option, sym, refl, subst, arith}
 use Rattle.order.specs.declared.keys.Key.{Key}
 use Rattle.order.specs.Laws.{Lawful}
-use Rattle.model.specs.declared.answers.Answer.TheVariants.{Busy, Idle, NoJob}
+use Rattle.model.specs.declared.answers.Refusal.TheVariants.{Busy, Idle, NoJob}
 use Rattle.model.specs.declared.jobs.Job.{Job}
 use Rattle.model.specs.declared.jobs.Kind.{Kind}
 use Rattle.model.specs.declared.jobs.Task.{Task}

@@ -1,9 +1,10 @@
 -- What each call keeps: the index stays in order beside the reference, and answers what the reference says.
-use Rattle.std.proofs.Common.{◌≡◌, ℕ, Bool, true, false, cond, ◌≢◌, List, set, Some, None, Option, sym, refl, ◌∙◌, subst, arith}
+use Rattle.std.proofs.Common.{◌≡◌, ℕ, Bool, true, false, cond, ◌≢◌, List, set, Some, None, Ok, Err, Option, sym, refl, ◌∙◌, subst, arith}
 use Rattle.std.proofs.lemmas.List.{length-set}
 use Rattle.page.specs.declared.entries.Entry.{Entry}
-use Rattle.model.specs.declared.answers.Answer.{Answer}
-use Rattle.model.specs.declared.answers.Answer.TheVariants.{NoConsole}
+use Rattle.model.specs.declared.answers.Done.{Done}
+use Rattle.model.specs.declared.answers.Refusal.{Refusal}
+use Rattle.model.specs.declared.answers.Refusal.TheVariants.{NoConsole}
 use Rattle.model.specs.declared.jobs.Job.{Job}
 use Rattle.model.specs.declared.jobs.Task.{Task}
 use Rattle.model.specs.Answers.{code, figure}
@@ -42,16 +43,16 @@ quiet_turn {o} c t out r q goes =
 
 module _ {o : KeyOrder} {s : State} {r : Reference} (inv : Inv o s) (agrees : Agrees o (view s) s.jobs r) where
   -- a refusal that the reference does not speak of
-  pub refused_quiet : (a : Answer) → code a ≢ 8 → Quiet o (refused a s) r
+  pub refused_quiet : (a : Refusal) → code (Err a) ≢ 8 → Quiet o (refused a s) r
   refused_quiet a fine = record { inv = inv; agrees = agrees; undamaged = fine }
 
   -- a refusal that the reference gives too
-  pub refused_kept : (a : Answer) → code a ≢ 8 → Kept o (refused a s) (saying a r)
+  pub refused_kept : (a : Refusal) → code (Err a) ≢ 8 → Kept o (refused a s) (saying (Err a) r)
   refused_kept a fine = record { inv = inv; agrees = agrees; says = (refl, λ _. refl); undamaged = fine }
 
   -- no console has such a number
   pub on_console_lem : (b : Bool) (out : Outcome) (rep : Reply) → (b ≡ true → Kept o out rep)
-      → Kept o (cond b out (refused NoConsole s)) (cond b rep (saying NoConsole r))
+      → Kept o (cond b out (refused NoConsole s)) (cond b rep (saying (Err NoConsole) r))
   on_console_lem true out rep h = h refl
   on_console_lem false out rep h = refused_kept NoConsole (λ e. omega arith)
 
@@ -75,9 +76,9 @@ move_quiet inv agrees c j p own ok =
 
 -- a job is finished, after what it did to the pages and the entries
 pub finish_kept : {o : KeyOrder} {s : State} {es : List Entry} {ts : List (Option Task)} → Inv o s
-    → Agrees o (view s) s.jobs (record { entries = es; tasks = ts }) → (c : ℕ) (a : Answer) → code a ≢ 8
-    → Kept o (finish c a s) (saying a (record { entries = es; tasks = set ts c None }))
-finish_kept inv agrees c a fine =
+    → Agrees o (view s) s.jobs (record { entries = es; tasks = ts }) → (c : ℕ) (d : Done) → code (Ok d) ≢ 8
+    → Kept o (finish c d s) (saying (Ok d) (record { entries = es; tasks = set ts c None }))
+finish_kept inv agrees c d fine =
     record {
       inv = inv_job inv c None tt;
       agrees = agrees_set agrees c None;

@@ -1,15 +1,13 @@
 -- The jobs of one key, done in order: what they answer, and which entry they leave, follows from their tasks alone.
-use Rattle.std.proofs.Common.{◌≡◌, List, [], ◌∷◌, ◌++◌, Some, None, Option, sym, refl, ap, ◌∙◌, subst, arith}
-use Rattle.order.specs.declared.keys.Comparison.{Comparison}
-use Rattle.order.specs.declared.keys.Comparison.TheVariants.{Before, Same, After}
+use Rattle.std.proofs.Common.{◌≡◌, List, [], ◌∷◌, ◌++◌, Some, None, Ok, Option, sym, refl, ap, ◌∙◌, subst, arith, Ordering, Less, Equal, Greater}
 use Rattle.order.specs.declared.keys.Key.{Key}
 use Rattle.order.specs.Laws.{Lawful}
 use Rattle.page.specs.declared.entries.Entry.{Entry}
-use Rattle.model.specs.declared.answers.Answer.{Answer}
-use Rattle.model.specs.declared.answers.Answer.TheVariants.{Found, Absent, Entered, Held, Struck}
+use Rattle.model.specs.declared.answers.Done.TheVariants.{Found, Absent, Entered, Held, Struck}
 use Rattle.model.specs.declared.jobs.Kind.{Kind}
 use Rattle.model.specs.declared.jobs.Kind.TheVariants.{Look, Enter, Strike}
 use Rattle.model.specs.declared.jobs.Task.{Task}
+use Rattle.model.specs.Answers.{Answer}
 use Rattle.model.specs.Entries.{KeyOrder, pick, insert, remove}
 use Rattle.model.specs.Jobs.{Finished, of_key, tasks_of, answers_of, SameTasks}
 use Rattle.model.proofs.Bounds.{IsKey}
@@ -20,12 +18,12 @@ use Rattle.model.proofs.OneKey.{entry_at, entry_same, insert_here, insert_other,
 
 -- what a job answers, by the entry with its key
 abbrev pub answer_to : Kind → Option Entry → Answer
-answer_to Look (Some e) = Found e.value
-answer_to Look None = Absent
-answer_to Strike (Some e) = Struck e.value
-answer_to Strike None = Absent
-answer_to Enter (Some e) = Held e.value
-answer_to Enter None = Entered
+answer_to Look (Some e) = Ok (Found e.value)
+answer_to Look None = Ok Absent
+answer_to Strike (Some e) = Ok (Struck e.value)
+answer_to Strike None = Ok Absent
+answer_to Enter (Some e) = Ok (Held e.value)
+answer_to Enter None = Ok Entered
 
 -- the entry with the key of a job after it, by the entry before it
 abbrev pub entry_by : Task → Kind → Option Entry → Option Entry
@@ -124,7 +122,7 @@ module _ (o : KeyOrder) where
 module _ {o : KeyOrder} (laws : Lawful o.keyed o.compared) where
   -- a job of the key, and of another key
   own_job : (t : Task) (kind : Kind) (k : Key) (es : List Entry) (x : Option Entry)
-      → Sorted o es → IsKey o t.key → IsKey o k → o.compared t.key k ≡ Same → entry_at o k es ≡ x
+      → Sorted o es → IsKey o t.key → IsKey o k → o.compared t.key k ≡ Equal → entry_at o k es ≡ x
       → entry_at o k (entries_by o t kind x es) ≡ entry_by t kind x
   own_job t Look k es x s kt kk same is = is
   own_job t Strike k es (Some e) s kt kk same is = remove_here laws t.key k es s kt kk same
@@ -133,7 +131,7 @@ module _ {o : KeyOrder} (laws : Lawful o.keyed o.compared) where
   own_job t Enter k es None s kt kk same is = insert_here o (new_entry t) k es same is
 
   other_job : (t : Task) (kind : Kind) (k : Key) (es : List Entry) (x : Option Entry)
-      → Sorted o es → IsKey o t.key → IsKey o k → (o.compared t.key k ≡ Same → ⊥)
+      → Sorted o es → IsKey o t.key → IsKey o k → (o.compared t.key k ≡ Equal → ⊥)
       → entry_at o k (entries_by o t kind x es) ≡ entry_at o k es
   other_job t Look k es x s kt kk other = refl
   other_job t Strike k es (Some e) s kt kk other =
@@ -148,18 +146,18 @@ module _ {o : KeyOrder} (laws : Lawful o.keyed o.compared) where
   job_leads t k es s kt kk =
       record { told = told (o.compared t.key k) refl; left = left (o.compared t.key k) refl }
     where
-      own : o.compared t.key k ≡ Same → entry_at o t.key es ≡ entry_at o k es
+      own : o.compared t.key k ≡ Equal → entry_at o t.key es ≡ entry_at o k es
       own same = entry_same laws t.key k es kt kk (sorted_keys o es s) same
 
-      told : (c : Comparison) → o.compared t.key k ≡ c → Told (entry_at o k es) (pick c [] (done_on o t es ∷ []) [])
-      told Before is = tt
-      told Same is = (ap (λ (x : Option Entry). answer_to t.kind x) (own is), tt)
-      told After is = tt
+      told : (c : Ordering) → o.compared t.key k ≡ c → Told (entry_at o k es) (pick c [] (done_on o t es ∷ []) [])
+      told Less is = tt
+      told Equal is = (ap (λ (x : Option Entry). answer_to t.kind x) (own is), tt)
+      told Greater is = tt
 
-      left : (c : Comparison) → o.compared t.key k ≡ c
+      left : (c : Ordering) → o.compared t.key k ≡ c
           → entry_at o k (entries_after o t es) ≡ entry_after (entry_at o k es) (pick c [] (done_on o t es ∷ []) [])
-      left Before is = other_job t t.kind k es (entry_at o t.key es) s kt kk (λ same. grind arith)
-      left Same is =
+      left Less is = other_job t t.kind k es (entry_at o t.key es) s kt kk (λ same. grind arith)
+      left Equal is =
           own_job t t.kind k es (entry_at o t.key es) s kt kk is (sym (own is))
           ∙ ap (λ (x : Option Entry). entry_by t t.kind x) (own is)
-      left After is = other_job t t.kind k es (entry_at o t.key es) s kt kk (λ same. grind arith)
+      left Greater is = other_job t t.kind k es (entry_at o t.key es) s kt kk (λ same. grind arith)

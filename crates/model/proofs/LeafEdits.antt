@@ -1,7 +1,6 @@
 -- A leaf gets other entries, and the reference the same ones: what it enters, and what it strikes.
-use Rattle.std.proofs.Common.{◌≡◌, ℕ, ◌≤◌, ◌≢◌, ◌⊎◌, List, length, Option, sym, ◌∙◌, subst, inl, inr, arith}
+use Rattle.std.proofs.Common.{◌≡◌, ℕ, ◌≤◌, ◌≢◌, ◌⊎◌, List, length, Option, sym, ◌∙◌, subst, inl, inr, arith, Equal}
 use Rattle.std.proofs.lemmas.Bool.{cases_eq}
-use Rattle.order.specs.declared.keys.Comparison.TheVariants.{Same}
 use Rattle.order.specs.declared.keys.Key.{Key}
 use Rattle.order.specs.Laws.{Lawful}
 use Rattle.page.specs.declared.entries.Entry.{Entry}
@@ -57,7 +56,7 @@ module _ {o : KeyOrder} (laws : Lawful o.keyed o.compared)
       all_in (λ (d : Entry). Covers o (f p) d.key) (f p).entries e (leaf_of t p lp leaf).inside i
 
   -- a page that covers a key covers the keys that are the same
-  covers_same : (p : ℕ) (k d : Key) → (f p).state ≡ Live → IsKey o k → IsKey o d → o.compared d k ≡ Same
+  covers_same : (p : ℕ) (k d : Key) → (f p).state ≡ Live → IsKey o k → IsKey o d → o.compared d k ≡ Equal
       → Covers o (f p) k → Covers o (f p) d
   covers_same p k d lp kk kd same c =
       let x = t.live p lp in
@@ -92,12 +91,12 @@ module _ {o : KeyOrder} (laws : Lawful o.keyed o.compared)
         ]
 
     same_covered : (k : Key) → IsKey o k → Covers o (f p) k → (d : Entry) → In d r.entries
-        → o.compared d.key k ≡ Same → Covers o (f p) d.key
+        → o.compared d.key k ≡ Equal → Covers o (f p) d.key
     same_covered k kk c d i same = covers_same p k d.key live kk (sorted_key o r.entries d a.sorted i) same c
 
     -- the entries of the reference with a key that the leaf covers are in the leaf
     pub covered_find : (k : Key) → IsKey o k → Covers o (f p) k → (d : Entry) → In d r.entries
-        → o.compared d.key k ≡ Same → In d (f p).entries
+        → o.compared d.key k ≡ Equal → In d (f p).entries
     covered_find k kk c d i same = elim (place d i) [
       | inl here ↦ here
       | inr out ↦ absurd (out (same_covered k kk c d i same))
@@ -153,10 +152,10 @@ module _ {o : KeyOrder} (laws : Lawful o.keyed o.compared)
 
     -- the entries of a key that the leaf covers are taken out of both
     pub strike_agrees : (k : Key) → IsKey o k → Covers o (f p) k → (es es' : List Entry) → Sorted o es'
-        → ((d : Entry) → In d es → In d (f p).entries × (o.compared d.key k ≡ Same → ⊥))
-        → ((d : Entry) → In d (f p).entries → (o.compared d.key k ≡ Same → ⊥) → In d es)
-        → ((d : Entry) → In d es' → In d r.entries × (o.compared d.key k ≡ Same → ⊥))
-        → ((d : Entry) → In d r.entries → (o.compared d.key k ≡ Same → ⊥) → In d es')
+        → ((d : Entry) → In d es → In d (f p).entries × (o.compared d.key k ≡ Equal → ⊥))
+        → ((d : Entry) → In d (f p).entries → (o.compared d.key k ≡ Equal → ⊥) → In d es)
+        → ((d : Entry) → In d es' → In d r.entries × (o.compared d.key k ≡ Equal → ⊥))
+        → ((d : Entry) → In d r.entries → (o.compared d.key k ≡ Equal → ⊥) → In d es')
         → Agrees o (edited f p es) js (record { entries = es'; tasks = r.tasks })
     strike_agrees k kk c es es' sorted in_es old in_es' old' = edit_agrees es es' sorted
         (λ d i. let h = in_es d i in old' d (a.into p d live leaf h.0) h.1)

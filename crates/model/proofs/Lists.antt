@@ -1,6 +1,5 @@
 -- Members of lists, and entries in order.
-use Rattle.std.proofs.Common.{◌≡◌, ℕ, zero, suc, ◌⊎◌, List, [], ◌∷◌, ◌++◌, take, drop, sym, refl, subst, inl, inr}
-use Rattle.order.specs.declared.keys.Comparison.TheVariants.{Before}
+use Rattle.std.proofs.Common.{◌≡◌, ℕ, zero, suc, ◌⊎◌, List, [], ◌∷◌, ◌++◌, take, drop, sym, refl, subst, inl, inr, Less}
 use Rattle.page.specs.declared.entries.Entry.{Entry}
 use Rattle.model.specs.Lists.{All, In}
 use Rattle.model.specs.Entries.{KeyOrder}
@@ -78,7 +77,7 @@ in_drop (suc n) (y ∷ xs) x i = inr (in_drop n xs x i)
 module _ (o : KeyOrder) where
   -- the entry d comes before e
   abbrev pub Precedes : Entry → Entry → Type 0
-  Precedes d e = o.compared d.key e.key ≡ Before
+  Precedes d e = o.compared d.key e.key ≡ Less
 
   -- the keys of a sorted list are keys
   pub sorted_keys : (es : List Entry) → Sorted o es → All (λ e. IsKey o e.key) es
@@ -91,7 +90,7 @@ module _ (o : KeyOrder) where
 
   -- two sorted lists, each entry of the first before each of the second
   pub sorted_append : (xs ys : List Entry) → Sorted o xs → Sorted o ys
-      → All (λ x. All (λ y. o.compared x.key y.key ≡ Before) ys) xs → Sorted o (xs ++ ys)
+      → All (λ x. All (λ y. o.compared x.key y.key ≡ Less) ys) xs → Sorted o (xs ++ ys)
   sorted_append [] ys sx sy before = sy
   sorted_append (x ∷ xs) ys sx sy before = (
     sx.0,

@@ -1,7 +1,6 @@
 -- The pages that a merge leaves: those that do not refer to the page that is gone, and the two that became one.
-use Rattle.std.proofs.Common.{◌≡◌, ℕ, zero, suc, ◌≤◌, true, ◌≢◌, ◌⊎◌, List, [], ◌∷◌, ◌++◌, length, Some, None, Option, sym, refl, ap, ◌∙◌, subst, inl, inr, arith, length-append}
+use Rattle.std.proofs.Common.{◌≡◌, ℕ, zero, suc, ◌≤◌, true, ◌≢◌, ◌⊎◌, List, [], ◌∷◌, ◌++◌, length, Some, None, Option, sym, refl, ap, ◌∙◌, subst, inl, inr, arith, length-append, Less}
 use Rattle.std.proofs.lemmas.Bool.Decides.{nat_tests}
-use Rattle.order.specs.declared.keys.Comparison.TheVariants.{Before}
 use Rattle.order.specs.declared.keys.Key.{Key}
 use Rattle.order.specs.Laws.{Lawful}
 use Rattle.page.specs.declared.entries.Entry.{Entry}
@@ -110,7 +109,7 @@ module _ {o : KeyOrder} (laws : Lawful o.keyed o.compared) where
         under_upto laws (start_of x) (start_of y) (at k) meet.start_key meet.middle_key kk meet.lower u
 
     left_right : (j k : Key) → IsKey o j → IsKey o k → Under o (at j) (end_of x) → UpTo o (start_of y) (at k)
-        → o.compared j k ≡ Before
+        → o.compared j k ≡ Less
     left_right j k kj kk u v =
         under_upto laws (at j) (start_of y) (at k) kj meet.middle_key kk (subst (Under o (at j)) meet.meets u) v
 
@@ -120,8 +119,8 @@ module _ {o : KeyOrder} (laws : Lawful o.keyed o.compared) where
         → ((e : Entry) → In e ys → UpTo o (start_of y) (at e.key)) → Sorted o (xs ++ ys)
     joined_sorted xs ys sx sy before after =
         sorted_append o xs ys sx sy
-        (all_from (λ d. All (λ e. o.compared d.key e.key ≡ Before) ys) xs
-        (λ d i. all_from (λ e. o.compared d.key e.key ≡ Before) ys
+        (all_from (λ d. All (λ e. o.compared d.key e.key ≡ Less) ys) xs
+        (λ d i. all_from (λ e. o.compared d.key e.key ≡ Less) ys
         (λ e j. left_right d.key e.key (sorted_key o xs d sx i) (sorted_key o ys e sy j)
         (before d i) (after e j))))
 
@@ -198,7 +197,7 @@ module _ {o : KeyOrder} (laws : Lawful o.keyed o.compared) where
           ] in
           let sorted : Sorted o (e ∷ es) = (
             subst (KeyBound o) m meet.middle_key,
-            all_from (λ d. o.compared e.key d.key ≡ Before) es
+            all_from (λ d. o.compared e.key d.key ≡ Less) es
                 (λ d i. subst (λ v. Under o v (at d.key)) m (behind d i)),
             hy.2,
           ) in (

@@ -1,7 +1,6 @@
 -- The two neighbours that a merge makes one: how they stand under their parent, and that no other page has the right
 -- one as its child or as its right neighbour.
-use Rattle.std.proofs.Common.{◌≡◌, ℕ, suc, false, ◌≢◌, ◌⊎◌, List, [], ◌∷◌, ◌++◌, Some, None, Option, sym, refl, ap, ◌∙◌, subst, inl, inr, arith}
-use Rattle.order.specs.declared.keys.Comparison.TheVariants.{Before, Same}
+use Rattle.std.proofs.Common.{◌≡◌, ℕ, suc, false, ◌≢◌, ◌⊎◌, List, [], ◌∷◌, ◌++◌, Some, None, Option, sym, refl, ap, ◌∙◌, subst, inl, inr, arith, Less, Equal}
 use Rattle.order.specs.declared.keys.Key.{Key}
 use Rattle.order.specs.Laws.{Lawful}
 use Rattle.page.specs.declared.entries.Entry.{Entry}
@@ -59,8 +58,8 @@ end_from o f x None b k h e live starts none =
 end_from o f x (Some j) b k h e live starts none = sym h.starts ∙ ap (λ v. (f v).start) e ∙ starts
 
 module _ {o : KeyOrder} (laws : Lawful o.keyed o.compared) where
-  key_differs : (a b : Key) → IsKey o a → o.compared a b ≡ Before → b ≢ a
-  key_differs a b ka u e = let i = laws.itself a ka in let w : Before ≡ Same = cc in grind arith
+  key_differs : (a b : Key) → IsKey o a → o.compared a b ≡ Less → b ≢ a
+  key_differs a b ka u e = let i = laws.itself a ka in let w : Less ≡ Equal = cc in grind arith
 
   -- two ranges with the same end are not apart
   same_end : (s u k : Bound) → KeyBound o s → KeyBound o u → KeyBound o k → Under o s k → Under o u k
@@ -80,9 +79,9 @@ module _ {o : KeyOrder} (laws : Lawful o.keyed o.compared) where
   )
   sorted_cut (c ∷ ls) d e rs s =
       let ih = sorted_cut ls d e rs s.2 in
-      let l = all_left (λ y. o.compared c.key y.key ≡ Before) ls (d ∷ e ∷ rs) s.1 in
-      let r = all_right (λ y. o.compared c.key y.key ≡ Before) ls (d ∷ e ∷ rs) s.1 in (
-        (s.0, all_append (λ y. o.compared c.key y.key ≡ Before) ls (d ∷ rs) l (r.0, r.1.1), ih.0),
+      let l = all_left (λ y. o.compared c.key y.key ≡ Less) ls (d ∷ e ∷ rs) s.1 in
+      let r = all_right (λ y. o.compared c.key y.key ≡ Less) ls (d ∷ e ∷ rs) s.1 in (
+        (s.0, all_append (λ y. o.compared c.key y.key ≡ Less) ls (d ∷ rs) l (r.0, r.1.1), ih.0),
         ((λ q. key_differs c.key e.key s.0 r.1.0 (sym q)), ih.1),
       )
 

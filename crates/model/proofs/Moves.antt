@@ -1,7 +1,5 @@
 -- Jobs that go from page to page, and the list of all consoles' jobs.
-use Rattle.std.proofs.Common.{◌≡◌, ℕ, zero, suc, true, false, List, [], ◌∷◌, get_or, set, Some, None, Option, sym, refl, ap, ◌∙◌, subst, arith}
-use Rattle.order.specs.declared.keys.Comparison.{Comparison}
-use Rattle.order.specs.declared.keys.Comparison.TheVariants.{Before, Same, After}
+use Rattle.std.proofs.Common.{◌≡◌, ℕ, zero, suc, true, false, List, [], ◌∷◌, get_or, set, Some, None, Option, sym, refl, ap, ◌∙◌, subst, arith, Ordering, Less, Equal, Greater}
 use Rattle.order.specs.declared.keys.Key.{Key}
 use Rattle.order.specs.Comparisons.{not_after}
 use Rattle.order.specs.Laws.{Lawful}
@@ -61,13 +59,13 @@ module _ {o : KeyOrder} (laws : Lawful o.keyed o.compared) where
         (λ reach. child_from_lem l e.value es (child_reached l e.value (Some e.key) all.0 reach) all.1)
         (child_from_lem l c es h all.1)
       where
-        pick_reached : (v : Comparison) → o.compared e.key k ≡ v
+        pick_reached : (v : Ordering) → o.compared e.key k ≡ v
             → (NotAfter o e.key k → Reached o f l k (child_from o k e.value es))
             → Reached o f l k (child_from o k c es)
             → Reached o f l k (pick v (child_from o k e.value es) (child_from o k e.value es) (child_from o k c es))
-        pick_reached Before q on stay = on (ap not_after q)
-        pick_reached Same q on stay = on (ap not_after q)
-        pick_reached After q on stay = stay
+        pick_reached Less q on stay = on (ap not_after q)
+        pick_reached Equal q on stay = on (ap not_after q)
+        pick_reached Greater q on stay = stay
 
     child_of_lem : (l : ℕ) (x : Page) (es : List Entry) → InnerEntries o f l x es → UpTo o (start_of x) (at k)
         → Reached o f l k (child_of o k es)

@@ -1,6 +1,5 @@
 -- What concerns one key: the entry with that key, and how it changes.
-use Rattle.std.proofs.Common.{◌≡◌, ℕ, List, [], ◌∷◌, Some, None, Option, sym, refl, ◌∙◌, subst, inl, inr, arith}
-use Rattle.order.specs.declared.keys.Comparison.TheVariants.{Before, Same}
+use Rattle.std.proofs.Common.{◌≡◌, ℕ, List, [], ◌∷◌, Some, None, Option, sym, refl, ◌∙◌, subst, inl, inr, arith, Less, Equal}
 use Rattle.order.specs.declared.keys.Key.{Key}
 use Rattle.order.specs.Laws.{Lawful}
 use Rattle.order.proofs.Shelf.{same_left, same_right}
@@ -34,7 +33,7 @@ module _ (o : KeyOrder) where
   entry_in k (d ∷ ds) e some = let ih = entry_in k ds e in grind arith
 
   -- there is none where no entry has the key
-  entry_none : (k : Key) (es : List Entry) → ((e : Entry) → In e es → o.compared e.key k ≡ Same → ⊥)
+  entry_none : (k : Key) (es : List Entry) → ((e : Entry) → In e es → o.compared e.key k ≡ Equal → ⊥)
       → entry_at k es ≡ None
   entry_none k [] other = refl
   entry_none k (e ∷ es) other =
@@ -43,13 +42,13 @@ module _ (o : KeyOrder) where
       grind arith
 
   -- the new entry is the one with its key
-  pub insert_here : (e : Entry) (k : Key) (es : List Entry) → o.compared e.key k ≡ Same → entry_at k es ≡ None
+  pub insert_here : (e : Entry) (k : Key) (es : List Entry) → o.compared e.key k ≡ Equal → entry_at k es ≡ None
       → entry_at k (insert o e es) ≡ Some e
   insert_here e k [] same none = grind arith
   insert_here e k (d ∷ ds) same none = let ih = insert_here e k ds same in grind arith
 
   -- an entry of another key is put in
-  pub insert_other : (e : Entry) (k : Key) (es : List Entry) → (o.compared e.key k ≡ Same → ⊥)
+  pub insert_other : (e : Entry) (k : Key) (es : List Entry) → (o.compared e.key k ≡ Equal → ⊥)
       → entry_at k (insert o e es) ≡ entry_at k es
   insert_other e k [] other = grind arith
   insert_other e k (d ∷ ds) other = let ih = insert_other e k ds other in grind arith
@@ -57,7 +56,7 @@ module _ (o : KeyOrder) where
 module _ {o : KeyOrder} (laws : Lawful o.keyed o.compared) where
   -- two same keys have the same entry
   pub entry_same : (a b : Key) (es : List Entry) → IsKey o a → IsKey o b → All (λ e. IsKey o e.key) es
-      → o.compared a b ≡ Same → entry_at o a es ≡ entry_at o b es
+      → o.compared a b ≡ Equal → entry_at o a es ≡ entry_at o b es
   entry_same a b [] ka kb ks same = refl
   entry_same a b (e ∷ es) ka kb ks same =
       let ih = entry_same a b es ka kb ks.1 same in
@@ -69,19 +68,19 @@ module _ {o : KeyOrder} (laws : Lawful o.keyed o.compared) where
   entry_own [] e s i = absurd i
   entry_own (d ∷ ds) e s (inl q) =
       let itself = laws.itself d.key s.0 in
-      let here = subst (λ (x : Entry). o.compared d.key x.key ≡ Same) (sym q) itself in
+      let here = subst (λ (x : Entry). o.compared d.key x.key ≡ Equal) (sym q) itself in
       grind arith
   entry_own (d ∷ ds) e s (inr i) =
       let ih = entry_own ds e s.2 i in
-      let before = all_in (λ x. o.compared d.key x.key ≡ Before) ds e s.1 i in
+      let before = all_in (λ x. o.compared d.key x.key ≡ Less) ds e s.1 i in
       grind arith
 
   -- the key is taken out
-  pub remove_here : (t k : Key) (es : List Entry) → Sorted o es → IsKey o t → IsKey o k → o.compared t k ≡ Same
+  pub remove_here : (t k : Key) (es : List Entry) → Sorted o es → IsKey o t → IsKey o k → o.compared t k ≡ Equal
       → entry_at o k (remove o t es) ≡ None
   remove_here t k es s kt kk same = entry_none o k (remove o t es) other
     where
-      other : (e : Entry) → In e (remove o t es) → o.compared e.key k ≡ Same → ⊥
+      other : (e : Entry) → In e (remove o t es) → o.compared e.key k ≡ Equal → ⊥
       other e i ek =
           let out = in_remove laws t es e s kt i in
           let ke = sorted_key o es e s out.0 in
@@ -89,7 +88,7 @@ module _ {o : KeyOrder} (laws : Lawful o.keyed o.compared) where
 
   -- another key is taken out
   pub remove_other : (t k : Key) (es : List Entry) → All (λ e. IsKey o e.key) es → IsKey o t → IsKey o k
-      → (o.compared t k ≡ Same → ⊥) → entry_at o k (remove o t es) ≡ entry_at o k es
+      → (o.compared t k ≡ Equal → ⊥) → entry_at o k (remove o t es) ≡ entry_at o k es
   remove_other t k [] ks kt kk other = refl
   remove_other t k (e ∷ es) ks kt kk other =
       let ih = remove_other t k es ks.1 kt kk other in

@@ -1,6 +1,5 @@
 -- The entries of an index: those of its leaves from left to right, in order.
-use Rattle.std.proofs.Common.{◌≡◌, ℕ, ◌≢◌, List, [], ◌∷◌, Option, sym, refl, subst, inl, inr, arith}
-use Rattle.order.specs.declared.keys.Comparison.TheVariants.{Before}
+use Rattle.std.proofs.Common.{◌≡◌, ℕ, ◌≢◌, List, [], ◌∷◌, Option, sym, refl, subst, inl, inr, arith, Less}
 use Rattle.order.specs.Laws.{Lawful}
 use Rattle.page.specs.declared.entries.Entry.{Entry}
 use Rattle.page.specs.declared.pages.PageState.TheVariants.{Live}
@@ -42,7 +41,7 @@ module _ {o : KeyOrder} (laws : Lawful o.keyed o.compared) (s : State) {fill roo
 
   -- the entries of a leaf stand before those of a leaf that starts later
   leaf_before : (p q : ℕ) → LiveAt f 0 p → LiveAt f 0 q → p ≢ q → UpTo o (start_of (f p)) (start_of (f q))
-      → (d e : Entry) → In d (f p).entries → In e (f q).entries → o.compared d.key e.key ≡ Before
+      → (d e : Entry) → In d (f p).entries → In e (f q).entries → o.compared d.key e.key ≡ Less
   leaf_before p q hp hq ne le d e inp inq =
       let leafp = leaf_of tree p hp.0 hp.1 in
       let leafq = leaf_of tree q hq.0 hq.1 in

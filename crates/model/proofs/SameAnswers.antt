@@ -1,14 +1,13 @@
 -- The same jobs have the same answers: a history leads on, at each key, by the jobs of that key that it finished.
-use Rattle.std.proofs.Common.{◌≡◌, ℕ, Bool, true, false, cond, ltb, ◌≢◌, List, [], ◌∷◌, get_or, Some, None, Option, sym, refl, ap, ◌∙◌, subst, arith}
+use Rattle.std.proofs.Common.{◌≡◌, ℕ, Bool, true, false, cond, ltb, ◌≢◌, List, [], ◌∷◌, get_or, Some, None, Err, Option, sym, refl, ap, ◌∙◌, subst, arith}
 use Rattle.order.specs.declared.keys.Key.{Key}
 use Rattle.order.specs.Laws.{Lawful}
 use Rattle.page.specs.declared.entries.Entry.{Entry}
-use Rattle.model.specs.declared.answers.Answer.{Answer}
-use Rattle.model.specs.declared.answers.Answer.TheVariants.{NoConsole}
+use Rattle.model.specs.declared.answers.Refusal.TheVariants.{NoConsole}
 use Rattle.model.specs.declared.jobs.Job.{Job}
 use Rattle.model.specs.declared.jobs.Kind.{Kind}
 use Rattle.model.specs.declared.jobs.Task.{Task}
-use Rattle.model.specs.Answers.{code, figure}
+use Rattle.model.specs.Answers.{Answer, code, figure}
 use Rattle.model.specs.Entries.{KeyOrder}
 use Rattle.model.specs.States.{view}
 use Rattle.model.specs.Turns.{job_at, kind_of, task_of}
@@ -69,7 +68,7 @@ module _ (o : KeyOrder) where
 
   -- what the reference makes of a turn
   abbrev turn_reply : ℕ → Bool → Bool → Option Task → Reference → Reply
-  turn_reply n there u task r = cond there (turn_task o n u task r) (saying NoConsole r)
+  turn_reply n there u task r = cond there (turn_task o n u task r) (saying (Err NoConsole) r)
 
   abbrev TurnDoes : ℕ → Bool → Option Job → Answer → Bool → Option Task → Reference → Type 0
   TurnDoes n there job a u task r =
@@ -92,11 +91,11 @@ module _ (o : KeyOrder) where
 
   -- begin and withdraw keep the entries
   begin_keeps : (n : ℕ) (there : Bool) (old new : Option Task) (r : Reference)
-      → (cond there (begin_task o n old new r) (saying NoConsole r)).after.entries ≡ r.entries
+      → (cond there (begin_task o n old new r) (saying (Err NoConsole) r)).after.entries ≡ r.entries
   begin_keeps n there old new r = grind arith
 
   withdraw_keeps : (n : ℕ) (there : Bool) (task : Option Task) (r : Reference)
-      → (cond there (withdraw_task o n task r) (saying NoConsole r)).after.entries ≡ r.entries
+      → (cond there (withdraw_task o n task r) (saying (Err NoConsole) r)).after.entries ≡ r.entries
   withdraw_keeps n there task r = grind arith
 
   call_does : (c : Call) (p : Pair) → Answering o p

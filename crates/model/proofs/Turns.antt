@@ -1,5 +1,5 @@
 -- Turn: by the page on which the job stands, and at its leaf by the kind of its task.
-use Rattle.std.proofs.Common.{◌≡◌, ℕ, zero, suc, ◌<◌, ◌≤◌, Bool, true, false, cond, ltb, ◌≢◌, List, length, get_or, set, Some, None, Option, sym, refl, ◌∙◌, subst, subst₂, arith}
+use Rattle.std.proofs.Common.{◌≡◌, ℕ, zero, suc, ◌<◌, ◌≤◌, Bool, true, false, cond, ltb, ◌≢◌, List, length, get_or, set, Some, None, Ok, Err, Option, sym, refl, ◌∙◌, subst, subst₂, arith}
 use Rattle.std.proofs.lemmas.Bool.{ltb-true, ltb-false, both_ways, cond_both}
 use Rattle.order.specs.declared.keys.Key.{Key}
 use Rattle.order.specs.Laws.{Lawful}
@@ -7,8 +7,9 @@ use Rattle.page.specs.declared.entries.Entry.{Entry}
 use Rattle.page.specs.declared.pages.PageState.{PageState}
 use Rattle.page.specs.declared.pages.PageState.TheVariants.{Free, Live, Gone, Damaged}
 use Rattle.page.specs.Pages.{Page}
-use Rattle.model.specs.declared.answers.Answer.{Answer}
-use Rattle.model.specs.declared.answers.Answer.TheVariants.{NoConsole, Idle, Found, Absent, Entered, Held, Struck}
+use Rattle.model.specs.declared.answers.Done.{Done}
+use Rattle.model.specs.declared.answers.Done.TheVariants.{Found, Absent, Entered, Held, Struck}
+use Rattle.model.specs.declared.answers.Refusal.TheVariants.{NoConsole, Idle}
 use Rattle.model.specs.declared.jobs.Job.{Job}
 use Rattle.model.specs.declared.jobs.Kind.{Kind}
 use Rattle.model.specs.declared.jobs.Kind.TheVariants.{Look, Enter, Strike}
@@ -76,13 +77,13 @@ module _ {o : KeyOrder} (laws : Lawful o.keyed o.compared) {s : State} {r : Refe
         (subst₂ does (sym ek) (sym (found_same ∙ ev)) h)
 
     -- a job that finds, and leaves all entries as they are
-    answered_kept : (kind : Kind) (v : Option ℕ) (a : Answer) → j.task.kind ≡ kind → find o k x.entries ≡ v
-        → unfinished a ≡ false → code a ≢ 8
-        → do_task o c j.task kind v r ≡ saying a (record { entries = r.entries; tasks = set r.tasks c None })
-        → Turned (finish c a s)
-    answered_kept kind v a ek ev ends fine says =
-        as_leaf (finish c a s) kind v ek ev ends
-        (subst (Kept o (finish c a s)) (sym says) (finish_kept inv agrees c a fine))
+    answered_kept : (kind : Kind) (v : Option ℕ) (d : Done) → j.task.kind ≡ kind → find o k x.entries ≡ v
+        → unfinished (Ok d) ≡ false → code (Ok d) ≢ 8
+        → do_task o c j.task kind v r ≡ saying (Ok d) (record { entries = r.entries; tasks = set r.tasks c None })
+        → Turned (finish c d s)
+    answered_kept kind v d ek ev ends fine says =
+        as_leaf (finish c d s) kind v ek ev ends
+        (subst (Kept o (finish c d s)) (sym says) (finish_kept inv agrees c d fine))
 
     -- the leaf gets other entries
     module _ (es : List Entry) (few : length es ≤ s.fill) where
@@ -179,7 +180,7 @@ module _ {o : KeyOrder} (laws : Lawful o.keyed o.compared) {s : State} {r : Refe
   -- no console has such a number, or it is this console's turn
   on_number : (b : Bool) (out : Outcome) (t : Option Task) → Kept o out (turn_task o c (unfinished out.answer) t r)
       → Kept o (cond b out (refused NoConsole s))
-      (cond b (turn_task o c (unfinished (cond b out (refused NoConsole s)).answer) t r) (saying NoConsole r))
+      (cond b (turn_task o c (unfinished (cond b out (refused NoConsole s)).answer) t r) (saying (Err NoConsole) r))
   on_number true out t h = h
   on_number false out t h = refused_kept inv agrees NoConsole (λ q. omega arith)
 

@@ -8,8 +8,9 @@ use Rattle.page.specs.declared.entries.Entry.{Entry}
 use Rattle.page.specs.declared.pages.PageState.{PageState}
 use Rattle.page.specs.declared.pages.PageState.TheVariants.{Live}
 use Rattle.page.specs.Pages.{Page}
-use Rattle.model.specs.declared.answers.Answer.{Answer}
-use Rattle.model.specs.declared.answers.Answer.TheVariants.{NoInner, Nothing, NoFreePage, Unreadable, Posted}
+use Rattle.model.specs.declared.answers.Done.TheVariants.{Posted}
+use Rattle.model.specs.declared.answers.Refusal.{Refusal}
+use Rattle.model.specs.declared.answers.Refusal.TheVariants.{NoInner, Nothing, NoFreePage, Unreadable}
 use Rattle.model.specs.declared.jobs.Job.{Job}
 use Rattle.model.specs.Lists.{All, Once}
 use Rattle.model.specs.Entries.{KeyOrder}
@@ -179,8 +180,8 @@ module _ {o : KeyOrder} (laws : Lawful o.keyed o.compared) {s : State} {r : Refe
     | inr take ↦ given take.takes (raised_quiet take)
   ]
     where
-      given : {m : Result ℕ Answer} → free_page s ≡ m → Quiet o (raise_into m s) r → Quiet o (raise_into (free_page s) s) r
-      given e h = subst (λ (m : Result ℕ Answer). Quiet o (raise_into m s) r) (sym e) h
+      given : {m : Result ℕ Refusal} → free_page s ≡ m → Quiet o (raise_into m s) r → Quiet o (raise_into (free_page s) s) r
+      given e h = subst (λ (m : Result ℕ Refusal). Quiet o (raise_into m s) r) (sym e) h
 
   -- the root can always be read, and is never of the highest level
   can_rise_lem : can_rise s.fill (view s (root s)) ≡ true

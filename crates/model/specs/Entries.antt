@@ -1,20 +1,20 @@
 -- An order of keys, and entries found, put in and taken out by it.
 use Rattle.std.specs.Prelude.{ℕ, Bool, List, [], ◌∷◌, Some, None, Option}
 use Rattle.order.specs.declared.keys.Key.{Key}
-use Rattle.order.specs.declared.keys.Comparison.{Comparison}
-use Rattle.order.specs.declared.keys.Comparison.TheVariants.{Before, Same, After}
+use Rattle.std.specs.declared.cmp.Ordering.{Ordering}
+use Rattle.std.specs.declared.cmp.Ordering.TheVariants.{Less, Equal, Greater}
 use Rattle.page.specs.declared.entries.Entry.{Entry}
 
 -- the two questions of an order
 pub record KeyOrder : Type 0 where
   pub keyed : Key → Bool
-  pub compared : Key → Key → Comparison
+  pub compared : Key → Key → Ordering
 
 -- one of three, for before, same and after
-abbrev pub pick : {A : Type 0} → Comparison → A → A → A → A
-pick Before b s a = b
-pick Same b s a = s
-pick After b s a = a
+abbrev pub pick : {A : Type 0} → Ordering → A → A → A → A
+pick Less b s a = b
+pick Equal b s a = s
+pick Greater b s a = a
 
 module _ (o : KeyOrder) where
   -- the value of the first entry with the same key

@@ -3,8 +3,7 @@ use Rattle.std.specs.Prelude.{◌≡◌, ℕ, List, [], ◌∷◌, ◌++◌, rep
 use Rattle.order.specs.declared.keys.Key.{Key}
 use Rattle.order.specs.Loads.{is_load_key, loads}
 use Rattle.order.specs.Places.{is_place, places, key_of_name}
-use Rattle.model.specs.declared.answers.Answer.{Answer}
-use Rattle.model.specs.Answers.{code, figure}
+use Rattle.model.specs.Answers.{Answer, code, figure}
 use Rattle.model.specs.Entries.{KeyOrder}
 use Rattle.model.specs.States.{State}
 use Rattle.model.specs.Starts.{format, attach, unmade}

@@ -1,8 +1,7 @@
 -- Histories: an index from its start on, through any list of calls, with the reference beside it.
 use Rattle.std.specs.Prelude.{ℕ, zero, suc, ◌≤◌, Bool, true, false, cond, ◌&&◌, ◌||◌, List, [], ◌∷◌, ◌++◌, length, Some, None, Option, ◌==◌}
 use Rattle.page.specs.declared.entries.Entry.{Entry}
-use Rattle.model.specs.declared.answers.Answer.{Answer}
-use Rattle.model.specs.Answers.{code}
+use Rattle.model.specs.Answers.{Answer, code}
 use Rattle.model.specs.Entries.{KeyOrder}
 use Rattle.model.specs.States.{State, view, is_live}
 use Rattle.model.specs.Upkeep.{numbers}

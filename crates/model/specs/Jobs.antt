@@ -2,11 +2,10 @@
 use Rattle.std.specs.Prelude.{◌≡◌, Bool, true, cond, ◌&&◌, List, [], ◌∷◌, ◌++◌, map, Some, None, Option, nat_le, nat_lt}
 use Rattle.order.specs.declared.keys.Key.{Key}
 use Rattle.order.specs.Laws.{Lawful}
-use Rattle.model.specs.declared.answers.Answer.{Answer}
 use Rattle.model.specs.declared.jobs.Kind.TheVariants.{Enter}
 use Rattle.model.specs.declared.jobs.Task.{Task}
 use Rattle.model.specs.declared.jobs.Job.{Job}
-use Rattle.model.specs.Answers.{code}
+use Rattle.model.specs.Answers.{Answer, code}
 use Rattle.model.specs.Entries.{KeyOrder, pick}
 use Rattle.model.specs.States.{State}
 use Rattle.model.specs.Turns.{job_at}

@@ -1,9 +1,8 @@
 -- What is proved of every history.
 use Rattle.std.specs.Prelude.{◌≡◌, ℕ, zero, suc, ◌<◌, true, ◌≢◌, List, Some, None, Option}
 use Rattle.order.specs.Laws.{Lawful}
-use Rattle.model.specs.declared.answers.Answer.{Answer}
 use Rattle.model.specs.declared.jobs.Job.{Job}
-use Rattle.model.specs.Answers.{code, figure}
+use Rattle.model.specs.Answers.{Answer, code, figure}
 use Rattle.model.specs.Entries.{KeyOrder}
 use Rattle.model.specs.States.{State}
 use Rattle.model.specs.Turns.{job_at, turn}

@@ -1,12 +1,13 @@
 -- The reference: a plain sorted list of entries, and each console's task, fed the same calls.
-use Rattle.std.specs.Prelude.{ℕ, Bool, true, false, cond, List, [], replicate, Some, None, Option, nat_lt, slice_index_or, slice_set}
+use Rattle.std.specs.Prelude.{ℕ, Bool, true, false, cond, List, [], replicate, Some, None, Ok, Err, Option, nat_lt, slice_index_or, slice_set}
 use Rattle.page.specs.declared.entries.Entry.{Entry}
 use Rattle.model.specs.declared.jobs.Kind.{Kind}
 use Rattle.model.specs.declared.jobs.Kind.TheVariants.{Look, Enter, Strike}
 use Rattle.model.specs.declared.jobs.Task.{Task}
-use Rattle.model.specs.declared.answers.Answer.{Answer}
-use Rattle.model.specs.declared.answers.Answer.TheVariants.{NoConsole, Busy, Idle, NoJob, Begun, Found, Absent}
-use Rattle.model.specs.declared.answers.Answer.TheVariants.{Entered, Held, Struck, Withdrawn}
+use Rattle.model.specs.declared.answers.Done.{Done}
+use Rattle.model.specs.declared.answers.Done.TheVariants.{Begun, Found, Absent, Entered, Held, Struck, Withdrawn}
+use Rattle.model.specs.declared.answers.Refusal.TheVariants.{NoConsole, Busy, Idle, NoJob}
+use Rattle.model.specs.Answers.{Answer}
 use Rattle.model.specs.Entries.{KeyOrder, find, insert, remove}
 use Rattle.model.specs.Turns.{kind_of, task_of}
 use Rattle.model.specs.Calls.{Call, begin, turn, withdraw, post, merge, raise, sweep}
@@ -34,8 +35,8 @@ abbrev pub with_task : ℕ → Option Task → Reference → Reference
 with_task c t r = record { entries = r.entries; tasks = slice_set r.tasks c t }
 
 -- a task is done whole, and dropped
-abbrev pub done : ℕ → Answer → List Entry → Reference → Reply
-done c a es r = saying a (record { entries = es; tasks = slice_set r.tasks c None })
+abbrev pub done : ℕ → Done → List Entry → Reference → Reply
+done c d es r = saying (Ok d) (record { entries = es; tasks = slice_set r.tasks c None })
 
 module _ (o : KeyOrder) where
   abbrev pub do_task : ℕ → Task → Kind → Option ℕ → Reference → Reply
@@ -48,24 +49,24 @@ module _ (o : KeyOrder) where
 
   -- a turn that does not finish the job leaves the reference as it is
   abbrev pub turn_task : ℕ → Bool → Option Task → Reference → Reply
-  turn_task c unfinished None r = saying Idle r
+  turn_task c unfinished None r = saying (Err Idle) r
   turn_task c true (Some t) r = silent r
   turn_task c false (Some t) r = do_task c t t.kind (find o t.key r.entries) r
 
   abbrev pub note_task : ℕ → Option Task → Reference → Reply
-  note_task c None r = saying NoJob r
-  note_task c (Some t) r = saying Begun (with_task c (Some t) r)
+  note_task c None r = saying (Err NoJob) r
+  note_task c (Some t) r = saying (Ok Begun) (with_task c (Some t) r)
 
   abbrev pub begin_task : ℕ → Option Task → Option Task → Reference → Reply
-  begin_task c (Some t) new r = saying Busy r
+  begin_task c (Some t) new r = saying (Err Busy) r
   begin_task c None new r = note_task c new r
 
   abbrev pub withdraw_task : ℕ → Option Task → Reference → Reply
-  withdraw_task c None r = saying Idle r
-  withdraw_task c (Some t) r = saying (Withdrawn 0) (with_task c None r)
+  withdraw_task c None r = saying (Err Idle) r
+  withdraw_task c (Some t) r = saying (Ok (Withdrawn 0)) (with_task c None r)
 
   abbrev pub on_console : ℕ → Reply → Reference → Reply
-  on_console c reply r = cond (nat_lt c 32) reply (saying NoConsole r)
+  on_console c reply r = cond (nat_lt c 32) reply (saying (Err NoConsole) r)
 
   -- the reference is fed a call and, of a turn, whether it leaves the job unfinished
   abbrev pub feed : Call → Bool → Reference → Reply

@@ -1,7 +1,7 @@
 -- A sound store, by seven rules: each of page 0, of a page or of a level.
 use Rattle.std.specs.Prelude.{◌≡◌, ℕ, zero, suc, ◌<◌, ◌≤◌, true, List, [], ◌∷◌, length, Some, None, Option}
 use Rattle.order.specs.declared.keys.Key.{Key}
-use Rattle.order.specs.declared.keys.Comparison.TheVariants.{Before}
+use Rattle.std.specs.declared.cmp.Ordering.TheVariants.{Less}
 use Rattle.order.specs.Comparisons.{not_after}
 use Rattle.page.specs.declared.entries.Entry.{Entry}
 use Rattle.page.specs.declared.pages.PageState.{PageState}
@@ -64,7 +64,7 @@ module _ (o : KeyOrder) where
   Earlier None None = ⊥
   Earlier None (Some k) = Unit {0}
   Earlier (Some j) None = ⊥
-  Earlier (Some j) (Some k) = o.compared j k ≡ Before
+  Earlier (Some j) (Some k) = o.compared j k ≡ Less
 
   -- each page but the last ends where the next one starts, later than itself; the last has neither end nor neighbour
   abbrev pub Neighbours : State → List ℕ → Type 0
@@ -90,7 +90,7 @@ module _ (o : KeyOrder) where
   -- each key is before all that follow
   abbrev pub Rise : List Entry → Type 0
   Rise [] = Unit {0}
-  Rise (e ∷ es) = All (λ d. o.compared e.key d.key ≡ Before) es × Rise es
+  Rise (e ∷ es) = All (λ d. o.compared e.key d.key ≡ Less) es × Rise es
 
   -- a key is not before a start; a key is after a start; a key is before an end
   abbrev pub NotBefore : Option Key → Key → Type 0
@@ -99,11 +99,11 @@ module _ (o : KeyOrder) where
 
   abbrev pub Behind : Option Key → Key → Type 0
   Behind None k = Unit {0}
-  Behind (Some s) k = o.compared s k ≡ Before
+  Behind (Some s) k = o.compared s k ≡ Less
 
   abbrev pub Ahead : Key → Option Key → Type 0
   Ahead k None = Unit {0}
-  Ahead k (Some t) = o.compared k t ≡ Before
+  Ahead k (Some t) = o.compared k t ≡ Less
 
   -- a leaf's keys rise strictly within its range; so do an inner page's after the first, all after its start
   abbrev pub OrderRule : Page → ℕ → List Entry → Type 0

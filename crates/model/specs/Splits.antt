@@ -4,8 +4,8 @@ use Rattle.order.specs.declared.keys.Key.{Key}
 use Rattle.page.specs.declared.entries.Entry.{Entry}
 use Rattle.page.specs.declared.pages.PageState.TheVariants.{Live}
 use Rattle.page.specs.Pages.{Page}
-use Rattle.model.specs.declared.answers.Answer.{Answer}
-use Rattle.model.specs.declared.answers.Answer.TheVariants.{Split}
+use Rattle.model.specs.declared.answers.Done.TheVariants.{Split}
+use Rattle.model.specs.declared.answers.Refusal.{Refusal}
 use Rattle.model.specs.States.{State, Outcome, refused, answered, view, write, write_head, root, free_page}
 
 -- how many entries stay: all but the last fill / 2
@@ -56,7 +56,7 @@ split p x n s =
     write_head (view s n).link (root s)
     (write p (shortened s.fill (relinked n x)) (write n (upper_page s.fill x) s))
 
-abbrev pub split_into : ℕ → Page → Result ℕ Answer → State → Outcome
+abbrev pub split_into : ℕ → Page → Result ℕ Refusal → State → Outcome
 split_into p x (Ok n) s = answered (Split n) (split p x n s)
 split_into p x (Err a) s = refused a s
 

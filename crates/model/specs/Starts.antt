@@ -3,7 +3,8 @@ use Rattle.std.specs.Prelude.{ℕ, ◌+◌, ◌-◌, ◌/◌, min, Bool, cond, �
 use Rattle.std.specs.List.{range_with_len}
 use Rattle.page.specs.declared.pages.PageState.TheVariants.{Live}
 use Rattle.page.specs.Pages.{Page, put, put_words, head_words}
-use Rattle.model.specs.declared.answers.Answer.TheVariants.{StoreTooSmall, NoFill, NoIndex, Made}
+use Rattle.model.specs.declared.answers.Done.TheVariants.{Made}
+use Rattle.model.specs.declared.answers.Refusal.TheVariants.{StoreTooSmall, NoFill, NoIndex}
 use Rattle.model.specs.States.{State, Outcome, refused, answered, no_jobs}
 use Rattle.model.specs.Upkeep.{free_page_to}
 

@@ -3,9 +3,11 @@ use Rattle.std.specs.Prelude.{ℕ, Bool, true, false, cond, not, ◌&&◌, List,
 use Rattle.page.specs.declared.pages.PageState.{PageState}
 use Rattle.page.specs.declared.pages.PageState.TheVariants.{Free, Live, Gone, Damaged}
 use Rattle.page.specs.Pages.{Page, page_at, is_there, put, put_words, head_words}
-use Rattle.model.specs.declared.answers.Answer.{Answer}
-use Rattle.model.specs.declared.answers.Answer.TheVariants.{Unreadable, NoFreePage}
+use Rattle.model.specs.declared.answers.Done.{Done}
+use Rattle.model.specs.declared.answers.Refusal.{Refusal}
+use Rattle.model.specs.declared.answers.Refusal.TheVariants.{Unreadable, NoFreePage}
 use Rattle.model.specs.declared.jobs.Job.{Job}
+use Rattle.model.specs.Answers.{Answer}
 
 abbrev pub consoles : ℕ
 consoles = 32
@@ -26,11 +28,11 @@ pub record Outcome : Type 0 where
   pub after : State
 
 -- a refusal leaves the state as it was
-abbrev pub refused : Answer → State → Outcome
-refused a s = record { answer = a; after = s }
+abbrev pub refused : Refusal → State → Outcome
+refused r s = record { answer = Err r; after = s }
 
-abbrev pub answered : Answer → State → Outcome
-answered a s = record { answer = a; after = s }
+abbrev pub answered : Done → State → Outcome
+answered d s = record { answer = Ok d; after = s }
 
 abbrev pub with_words : List ℕ → State → State
 with_words w s = record { words = w; pages = s.pages; fill = s.fill; jobs = s.jobs }
@@ -98,7 +100,7 @@ abbrev pub readable : ℕ → Page → Bool
 readable fill x = has_form x.state && (nat_le x.level top_level && (nat_le (length x.entries) fill && is_fed x))
 
 -- the first free page, taken off the chain by whoever needs a page
-abbrev pub free_page : State → Result ℕ Answer
+abbrev pub free_page : State → Result ℕ Refusal
 free_page s =
     cond (free_head s == 0) (Err NoFreePage)
     (cond (is_free (view s (free_head s)).state) (Ok (free_head s)) (Err (Unreadable (free_head s))))

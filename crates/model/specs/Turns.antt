@@ -1,15 +1,16 @@
 -- Jobs: begin, turn and withdraw.
-use Rattle.std.specs.Prelude.{ℕ, zero, suc, Bool, true, false, cond, List, [], ◌∷◌, length, Some, None, Option, ◌==◌, nat_lt, slice_index_or}
+use Rattle.std.specs.Prelude.{◌≡◌, ℕ, zero, suc, Bool, true, false, cond, List, [], ◌∷◌, length, Some, None, Option, Result, MatchResult, ◌==◌, nat_lt, slice_index_or}
 use Rattle.order.specs.declared.keys.Key.{Key}
 use Rattle.page.specs.declared.entries.Entry.{Entry}
 use Rattle.page.specs.declared.pages.PageState.{PageState}
 use Rattle.page.specs.declared.pages.PageState.TheVariants.{Free, Live, Gone, Damaged}
 use Rattle.page.specs.Pages.{Page}
-use Rattle.model.specs.declared.answers.Answer.{Answer}
-use Rattle.model.specs.declared.answers.Answer.TheVariants.{NoConsole, Busy, Idle, NoJob, Unreadable, Begun, Moved}
-use Rattle.model.specs.declared.answers.Answer.TheVariants.{Found, Absent, Entered, Held, Struck, Withdrawn}
+use Rattle.model.specs.declared.answers.Done.{Done}
+use Rattle.model.specs.declared.answers.Done.TheVariants.{Begun, Moved, Found, Absent, Entered, Held, Struck, Withdrawn}
+use Rattle.model.specs.declared.answers.Refusal.TheVariants.{NoConsole, Busy, Idle, NoJob, Unreadable}
 use Rattle.model.specs.declared.jobs.Kind.{Kind}
 use Rattle.model.specs.declared.jobs.Kind.TheVariants.{Look, Enter, Strike}
+use Rattle.model.specs.declared.jobs.NoKind.{NoKind}
 use Rattle.model.specs.declared.jobs.Task.{Task}
 use Rattle.model.specs.declared.jobs.Job.{Job}
 use Rattle.model.specs.Entries.{KeyOrder, pick, find, insert, remove}
@@ -24,6 +25,10 @@ job_at s c = slice_index_or s.jobs c None
 abbrev pub kind_of : ℕ → Option Kind
 kind_of n = cond (n == 1) (Some Look) (cond (n == 2) (Some Enter) (cond (n == 3) (Some Strike) None))
 
+-- the kind that a number names, or an error with a number that names none
+abbrev pub Names : ℕ → Result Kind NoKind → Type 0
+Names n r = MatchResult r (λ kind. kind_of n ≡ Some kind) (λ none. (kind_of n ≡ None) × (none.0 ≡ n))
+
 abbrev pub with_entries : List Entry → Page → Page
 with_entries es x =
     record { state = x.state; level = x.level; link = x.link; start = x.start; end = x.end; entries = es }
@@ -33,8 +38,8 @@ abbrev pub move : ℕ → Job → ℕ → State → Outcome
 move c j p s = answered (Moved p) (with_job c (Some (record { task = j.task; page = p })) s)
 
 -- the job at console c is finished
-abbrev pub finish : ℕ → Answer → State → Outcome
-finish c a s = answered a (with_job c None s)
+abbrev pub finish : ℕ → Done → State → Outcome
+finish c d s = answered d (with_job c None s)
 
 module _ (o : KeyOrder) where
   -- there is an end, and the key is not before it

@@ -6,9 +6,9 @@ use Rattle.order.specs.Comparisons.{is_before}
 use Rattle.page.specs.declared.entries.Entry.{Entry}
 use Rattle.page.specs.declared.pages.PageState.TheVariants.{Free, Live, Gone}
 use Rattle.page.specs.Pages.{Page, bound_key}
-use Rattle.model.specs.declared.answers.Answer.{Answer}
-use Rattle.model.specs.declared.answers.Answer.TheVariants.{Unreadable, NoInner, Nothing, Posted, Merged, Raised}
-use Rattle.model.specs.declared.answers.Answer.TheVariants.{Swept}
+use Rattle.model.specs.declared.answers.Done.TheVariants.{Posted, Merged, Raised, Swept}
+use Rattle.model.specs.declared.answers.Refusal.{Refusal}
+use Rattle.model.specs.declared.answers.Refusal.TheVariants.{Unreadable, NoInner, Nothing}
 use Rattle.model.specs.declared.jobs.Job.{Job}
 use Rattle.model.specs.Entries.{KeyOrder}
 use Rattle.model.specs.States.{State, Outcome, refused, answered, view, write, write_head, root, free_head, free_page}
@@ -156,7 +156,7 @@ root_over r x =
       entries = record { key = record { hi = 0; lo = 0 }; value = r } ∷ [];
     }
 
-abbrev pub raise_into : Result ℕ Answer → State → Outcome
+abbrev pub raise_into : Result ℕ Refusal → State → Outcome
 raise_into (Err a) s = refused a s
 raise_into (Ok n) s =
     answered (Raised n) (write_head (view s n).link n (write n (root_over (root s) (view s (root s))) s))

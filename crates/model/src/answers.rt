@@ -1,10 +1,16 @@
 //! What the calls of an index answer.
 ghost use Rattle.std.specs.Prelude.{◌≡◌};
+ghost use Rattle.model.specs.declared.answers.Refusal.TheVariants.{NoJob};
 ghost use Rattle.model.specs.Answers.{code, figure};
 
-/// The answer of a call: each case has a code, and where it says so a figure.
-#[derive(Clone, Copy)]
-pub enum Answer {
+use crate::jobs::NoKind;
+
+/// What a call answers: what it did, or why it was refused.
+pub type Answer = Result<Done, Refusal>;
+
+/// Why a call was refused: each case has a code, and where it says so a figure.
+#[derive(Clone, Copy, Debug, PartialEq, Eq)]
+pub enum Refusal {
     /// 1: the store has fewer than 128 words
     StoreTooSmall,
     /// 2: the fill is not 4 to 18
@@ -27,6 +33,11 @@ pub enum Answer {
     NoInner,
     /// 11: there is nothing to do
     Nothing,
+}
+
+/// What a call did: each case has a code, and where it says so a figure.
+#[derive(Clone, Copy, Debug, PartialEq, Eq)]
+pub enum Done {
     /// 20: the index is made, with so many pages
     Made(u64),
     /// 20: the job stands on the root
@@ -57,38 +68,63 @@ pub enum Answer {
     Swept(u64),
 }
 
-impl Answer {
-    /// The code of the answer and its figure, which is 0 where the answer names none.
-    pub fn pair(self) -> (u64, u64)
-        ensures code { result.0 ≡ code self }
-        ensures figure { result.1 ≡ figure self }
+impl From<NoKind> for Refusal {
+    ghost from_gives = { λ _ refusal. refusal ≡ NoJob };
+
+    fn from(_none: NoKind) -> Self {
+        Self::NoJob
+    }
+}
+
+impl Refusal {
+    fn pair(self) -> (u64, u64)
+        ensures code { result.0 ≡ code (Err self) }
+        ensures figure { result.1 ≡ figure (Err self) }
     {
         match self {
-            Answer::StoreTooSmall => (1, 0),
-            Answer::NoFill => (2, 0),
-            Answer::NoIndex => (3, 0),
-            Answer::NoConsole => (4, 0),
-            Answer::Busy => (5, 0),
-            Answer::Idle => (6, 0),
-            Answer::NoJob => (7, 0),
-            Answer::Unreadable(page) => (8, page),
-            Answer::NoFreePage => (9, 0),
-            Answer::NoInner => (10, 0),
-            Answer::Nothing => (11, 0),
-            Answer::Made(pages) => (20, pages),
-            Answer::Begun => (20, 0),
-            Answer::Moved(page) => (21, page),
-            Answer::Split(page) => (22, page),
-            Answer::Found(value) => (23, value),
-            Answer::Absent => (24, 0),
-            Answer::Entered => (25, 0),
-            Answer::Held(value) => (26, value),
-            Answer::Struck(value) => (27, value),
-            Answer::Withdrawn(page) => (28, page),
-            Answer::Posted(page) => (29, page),
-            Answer::Merged(page) => (30, page),
-            Answer::Raised(page) => (31, page),
-            Answer::Swept(pages) => (32, pages),
+            Refusal::StoreTooSmall => (1, 0),
+            Refusal::NoFill => (2, 0),
+            Refusal::NoIndex => (3, 0),
+            Refusal::NoConsole => (4, 0),
+            Refusal::Busy => (5, 0),
+            Refusal::Idle => (6, 0),
+            Refusal::NoJob => (7, 0),
+            Refusal::Unreadable(page) => (8, page),
+            Refusal::NoFreePage => (9, 0),
+            Refusal::NoInner => (10, 0),
+            Refusal::Nothing => (11, 0),
         }
     }
+}
+
+impl Done {
+    fn pair(self) -> (u64, u64)
+        ensures code { result.0 ≡ code (Ok self) }
+        ensures figure { result.1 ≡ figure (Ok self) }
+    {
+        match self {
+            Done::Made(pages) => (20, pages),
+            Done::Begun => (20, 0),
+            Done::Moved(page) => (21, page),
+            Done::Split(page) => (22, page),
+            Done::Found(value) => (23, value),
+            Done::Absent => (24, 0),
+            Done::Entered => (25, 0),
+            Done::Held(value) => (26, value),
+            Done::Struck(value) => (27, value),
+            Done::Withdrawn(page) => (28, page),
+            Done::Posted(page) => (29, page),
+            Done::Merged(page) => (30, page),
+            Done::Raised(page) => (31, page),
+            Done::Swept(pages) => (32, pages),
+        }
+    }
+}
+
+/// The code of an answer and its figure, which is 0 where the answer names none.
+pub fn pair(answer: Answer) -> (u64, u64)
+    ensures code { result.0 ≡ code answer }
+    ensures figure { result.1 ≡ figure answer }
+{
+    answer.map_or_else(Refusal::pair, Done::pair)
 }

@@ -5,5 +5,5 @@ pub mod answers;
 pub mod jobs;
 pub mod promises;
 
-pub use answers::Answer;
-pub use jobs::{Job, Kind, Task};
+pub use answers::{Answer, Done, Refusal, pair};
+pub use jobs::{Job, Kind, NoKind, Task};

@@ -1,4 +1,3 @@
-pub mod Folding
 pub mod Names
 pub mod Padding
 pub mod Shelf

@@ -1,19 +1,26 @@
 -- What is left of a text without its trailing zeros.
-use Rattle.std.proofs.Common.{◌≡◌, ℕ, zero, suc, ◌+◌, ◌-◌, ◌<◌, ◌≤◌, true, false, cond, eqb, List, [], ◌∷◌, ◌++◌, length, get_or, take, replicate, sym, refl, ap, ◌∙◌, arith, length-take}
+use Rattle.std.proofs.Common.{◌≡◌, ℕ, zero, suc, ◌+◌, ◌-◌, ◌<◌, ◌≤◌, true, List, [], ◌∷◌, ◌++◌, length, get_or, take, replicate, sym, refl, ap, ◌∙◌, arith, length-take}
 use Rattle.std.proofs.lemmas.List.{take_all, take_more}
 use Rattle.std.proofs.lemmas.Bool.Decides.{nat_tests}
-use Rattle.std.proofs.lemmas.Bool.{ne_eqb, cond-false}
-use Rattle.order.specs.Places.{kept_before, unpadded, key_of_name}
+use Rattle.std.proofs.lemmas.Bool.{and_parts, ne_eqb, cond-false}
+use Rattle.order.specs.Places.{kept_before, unpadded, all_printed, key_of_name}
 
--- a 0 at the end goes
-pub unpadded_zero : (xs : List ℕ) → unpadded (xs ++ 0 ∷ []) ≡ unpadded xs
-unpadded_zero [] = refl
-unpadded_zero (x ∷ xs) = ap (kept_before x) (unpadded_zero xs)
+-- zeros at the end go
+pub unpadded_zeros : (xs : List ℕ) (n : ℕ) → unpadded (xs ++ replicate n 0) ≡ unpadded xs
+unpadded_zeros [] zero = refl
+unpadded_zeros [] (suc n) = ap (kept_before 0) (unpadded_zeros [] n)
+unpadded_zeros (x ∷ xs) n = ap (kept_before x) (unpadded_zeros xs n)
 
 -- a byte that is not 0 is kept
-pub kept_other : (c : ℕ) (xs : List ℕ) → (c ≡ 0 → ⊥) → kept_before c xs ≡ c ∷ xs
+kept_other : (c : ℕ) (xs : List ℕ) → (c ≡ 0 → ⊥) → kept_before c xs ≡ c ∷ xs
 kept_other c [] other = cond-false _ _ _ (ne_eqb c 0 other)
 kept_other c (x ∷ xs) other = refl
+
+-- so printed bytes stay
+pub unpadded_printed : (xs : List ℕ) → all_printed xs ≡ true → unpadded xs ≡ xs
+unpadded_printed [] all = refl
+unpadded_printed (x ∷ xs) all =
+    ap (kept_before x) (unpadded_printed xs (and_parts _ _ all).1) ∙ kept_other x xs (grind (arith, nat_tests))
 
 -- any byte is kept before a text that has a last byte
 kept_before_last : (x : ℕ) (xs : List ℕ) (c : ℕ) → kept_before x (xs ++ c ∷ []) ≡ x ∷ (xs ++ c ∷ [])
@@ -21,7 +28,7 @@ kept_before_last x [] c = refl
 kept_before_last x (y ∷ ys) c = refl
 
 -- a text that ends with another byte stays
-pub unpadded_other : (xs : List ℕ) (c : ℕ) → (c ≡ 0 → ⊥) → unpadded (xs ++ c ∷ []) ≡ xs ++ c ∷ []
+unpadded_other : (xs : List ℕ) (c : ℕ) → (c ≡ 0 → ⊥) → unpadded (xs ++ c ∷ []) ≡ xs ++ c ∷ []
 unpadded_other [] c other = kept_other c [] other
 unpadded_other (x ∷ xs) c other = ap (kept_before x) (unpadded_other xs c other) ∙ kept_before_last x xs c
 
@@ -37,7 +44,7 @@ pub unpadded_front : (xs : List ℕ) → 0 < length xs → get_or xs (length xs 
     unpadded (take (length xs - 1) xs) ≡ unpadded xs
 unpadded_front xs some last =
     let parts = front_and_last xs some in
-    let zero_goes = unpadded_zero (take (length xs - 1) xs) in
+    let zero_goes = unpadded_zeros (take (length xs - 1) xs) 1 in
     cc
 
 -- a text whose last byte is not 0 is all kept
@@ -49,8 +56,7 @@ unpadded_whole xs some last =
 
 -- a 0 that goes reads as it did
 get_or_kept : (x : ℕ) (xs : List ℕ) (i : ℕ) → get_or (kept_before x xs) i 0 ≡ get_or (x ∷ xs) i 0
-get_or_kept x [] zero = grind (arith, nat_tests)
-get_or_kept x [] (suc i) = grind (arith, nat_tests)
+get_or_kept x [] i = grind (arith, nat_tests)
 get_or_kept x (y ∷ ys) i = refl
 
 -- a byte past the end reads as 0, so trailing zeros can go
@@ -59,13 +65,21 @@ get_or_unpadded [] i = refl
 get_or_unpadded (x ∷ xs) zero = get_or_kept x (unpadded xs) zero
 get_or_unpadded (x ∷ xs) (suc i) = get_or_kept x (unpadded xs) (suc i) ∙ get_or_unpadded xs i
 
+pub get_or_zeros : (xs : List ℕ) (n i : ℕ) → get_or (xs ++ replicate n 0) i 0 ≡ get_or xs i 0
+get_or_zeros xs n i =
+    let bare = get_or_unpadded xs i in
+    let padded = get_or_unpadded (xs ++ replicate n 0) i in
+    let zeros_go = unpadded_zeros xs n in
+    cc
+
+-- and they are nothing to a key
+pub key_unpadded : (xs : List ℕ) → key_of_name (unpadded xs) ≡ key_of_name xs
+key_unpadded xs = simp (get_or_unpadded xs)
+
 -- one byte more in front
 front_kept : (x : ℕ) (xs ys : List ℕ) → take (length ys) xs ≡ ys →
     take (length (kept_before x ys)) (x ∷ xs) ≡ kept_before x ys
-front_kept x xs [] rest =
-    elim (eqb x 0)
-    as (λ goes. take (length (cond goes [] (x ∷ []))) (x ∷ xs) ≡ cond goes [] (x ∷ []))
-    [ true ↦ refl | false ↦ refl ]
+front_kept x xs [] rest = grind (arith, nat_tests)
 front_kept x xs (y ∷ ys) rest = ap (λ back. x ∷ back) rest
 
 -- what is kept of a text is its front
@@ -79,22 +93,3 @@ unpadded_no_longer xs =
     let front = ap length (unpadded_is_front xs) in
     let size = length-take (length (unpadded xs)) xs in
     omega arith
-
--- a zero at the end reads like a byte past the end
-get_or_padded : (xs : List ℕ) (n i : ℕ) → get_or (xs ++ replicate n 0) i 0 ≡ get_or xs i 0
-get_or_padded [] zero i = refl
-get_or_padded [] (suc n) zero = refl
-get_or_padded [] (suc n) (suc i) = get_or_padded [] n i
-get_or_padded (x ∷ xs) n zero = refl
-get_or_padded (x ∷ xs) n (suc i) = get_or_padded xs n i
-
--- texts that read alike, past their ends too, have one key
-same_key : (xs ys : List ℕ) → ((i : ℕ) → get_or xs i 0 ≡ get_or ys i 0) → key_of_name xs ≡ key_of_name ys
-same_key xs ys same = simp same
-
--- so zeros at the end are nothing to a key
-pub key_unpadded : (xs : List ℕ) → key_of_name (unpadded xs) ≡ key_of_name xs
-key_unpadded xs = same_key (unpadded xs) xs (get_or_unpadded xs)
-
-pub key_padded : (xs : List ℕ) (n : ℕ) → key_of_name (xs ++ replicate n 0) ≡ key_of_name xs
-key_padded xs n = same_key (xs ++ replicate n 0) xs (get_or_padded xs n)

@@ -1,14 +1,6 @@
 -- A word and its eight bytes, each from the other.
-use Rattle.std.proofs.Common.{◌≡◌, ℕ, ◌+◌, ◌/◌, ◌%◌, ◌^◌, ◌<◌, List, [], ◌∷◌, ◌++◌, get_or, replicate, arith}
-use borrow.Rule.Slice.PartMut.{put_mid}
-use Rattle.order.specs.declared.keys.Key.{Key}
-use Rattle.order.specs.Places.{bytes_of, text, word_from}
-
--- the bytes of both words, laid one after the other over sixteen zeros
-pub text_of_halves : (k : Key) (front back : List ℕ) → front ≡ bytes_of k.hi → back ≡ bytes_of k.lo →
-    put_mid 8 8 (front ++ replicate 8 0) back ≡ text k
-unfolding text
-text_of_halves k front back first second = simp (first, second)
+use Rattle.std.proofs.Common.{◌≡◌, ℕ, ◌+◌, ◌/◌, ◌%◌, ◌^◌, ◌<◌, List, [], ◌∷◌, get_or, arith}
+use Rattle.order.specs.Places.{bytes_of, word_from}
 
 -- the bytes of a word give the word
 pub word_of_bytes : (w : ℕ) → w < 2 ^ 64 → word_from 0 (bytes_of w) ≡ w

@@ -4,4 +4,3 @@ pub mod Loads
 pub mod PlaceNames
 pub mod Places
 pub mod Refusals
-pub mod Folding

@@ -1,11 +1,10 @@
 -- Load keys: a truck and a second.
 use Rattle.std.specs.Prelude.{ℕ, Bool, ◌&&◌, nat_le}
 use Rattle.order.specs.declared.keys.Key.{Key}
-use Rattle.order.specs.declared.keys.Comparison.{Comparison}
-use Rattle.std.proofs.Common.{arith}
-use Rattle.std.proofs.lemmas.Bool.Decides.{nat_tests}
-use Rattle.order.specs.Comparisons.{by_number, and_then}
-use Rattle.order.specs.Laws.{Lawful}
+use Rattle.std.specs.declared.cmp.Ordering.{Ordering}
+use Rattle.std.specs.Ordering.{nat_cmp, ordering_then}
+use Rattle.std.specs.Cmp.{on_total, then_total, nat_cmp_total}
+use Rattle.order.specs.Laws.{Lawful, lawful_from_total}
 
 -- a truck of 1 to 9,999 and a second of 0 to 4,294,967,295
 abbrev pub is_load : ℕ → ℕ → Bool
@@ -20,13 +19,11 @@ abbrev pub key_of_load : ℕ → ℕ → Key
 key_of_load truck second = record { hi = truck; lo = second }
 
 -- trucks first, then seconds
-abbrev pub loads : Key → Key → Comparison
-loads a b = and_then (by_number a.hi b.hi) (by_number a.lo b.lo)
+abbrev pub loads : Key → Key → Ordering
+loads a b = ordering_then (nat_cmp a.hi b.hi) (nat_cmp a.lo b.lo)
 
 -- it keeps the laws
 pub load_laws : Lawful is_load_key loads
-load_laws = record {
-  itself = λ a _. grind (arith, nat_tests);
-  exchange = λ a b _ _. grind (arith, nat_tests);
-  onward = λ a b c _ _ _. grind (arith, nat_tests);
-}
+load_laws =
+    lawful_from_total
+    (then_total (on_total (λ (k : Key). k.hi) nat_cmp_total) (on_total (λ (k : Key). k.lo) nat_cmp_total))

@@ -1,9 +1,13 @@
 -- Place keys: a name of 1 to 16 printed bytes, eight to a word, the first byte highest, the rest 0.
-use Rattle.std.specs.Prelude.{◌≡◌, ℕ, ◌+◌, ◌-◌, ◌*◌, ◌/◌, ◌%◌, ◌^◌, ◌<◌, Bool, true, cond, ◌&&◌, List, [], ◌∷◌, ◌++◌, length, ◌==◌, nat_le, slice_index}
+use Rattle.std.specs.Prelude.{◌≡◌, ℕ, ◌+◌, ◌*◌, ◌/◌, ◌%◌, ◌^◌, ◌<◌, Bool, true, cond, ◌&&◌, List, [], ◌∷◌, ◌++◌, length, map, ◌==◌, nat_le, slice_index}
 use Rattle.order.specs.declared.keys.Key.{Key}
-use Rattle.order.specs.declared.keys.Comparison.{Comparison}
-use Rattle.order.specs.declared.keys.Comparison.TheVariants.{Before, Same, After}
-use Rattle.order.specs.Comparisons.{by_number, and_then}
+use Rattle.order.specs.Laws.{Lawful, lawful_from_total}
+use Rattle.std.specs.declared.cmp.Ordering.{Ordering}
+use Rattle.std.specs.Ordering.{nat_cmp}
+use Rattle.std.specs.Cmp.{IsTotalOrder, on_total}
+use Rattle.std.specs.Cmp.Lexicographic.{slice_cmp, nat_list_cmp_total}
+use Rattle.std.specs.Char.{is_ascii_graphic, to_ascii_uppercase}
+use Rattle.std.specs.List.{list_all}
 
 -- the eight bytes of a word, the highest first
 abbrev pub bytes_of : ℕ → List ℕ
@@ -38,12 +42,11 @@ name_bytes k = unpadded (text k)
 
 -- a byte that prints, and is no blank
 abbrev pub printed : ℕ → Bool
-printed c = nat_le 33 c && nat_le c 126
+printed c = is_ascii_graphic c
 
 -- every byte is printed
 abbrev pub all_printed : List ℕ → Bool
-all_printed [] = true
-all_printed (c ∷ cs) = printed c && all_printed cs
+all_printed bs = list_all printed bs
 
 -- a name: 1 to 16 bytes, all of them printed
 abbrev pub is_name : List ℕ → Bool
@@ -55,18 +58,23 @@ is_place k = is_name (name_bytes k)
 
 -- a to z as A to Z
 abbrev pub folded : ℕ → ℕ
-folded c = cond (nat_le 97 c && nat_le c 122) (c - 32) c
+folded c = to_ascii_uppercase c
 
 -- byte by byte, folded: the first difference decides
-abbrev pub by_folded_bytes : List ℕ → List ℕ → Comparison
-by_folded_bytes [] [] = Same
-by_folded_bytes [] (d ∷ ds) = Before
-by_folded_bytes (c ∷ cs) [] = After
-by_folded_bytes (c ∷ cs) (d ∷ ds) = and_then (by_number (folded c) (folded d)) (by_folded_bytes cs ds)
+abbrev pub by_folded_bytes : List ℕ → List ℕ → Ordering
+by_folded_bytes xs ys = slice_cmp nat_cmp (map folded xs) (map folded ys)
+
+-- it is a total order
+pub bytes_total : IsTotalOrder by_folded_bytes
+bytes_total = on_total (map folded) nat_list_cmp_total
 
 -- two places, by the bytes of their words
-abbrev pub places : Key → Key → Comparison
+abbrev pub places : Key → Key → Ordering
 places a b = by_folded_bytes (text a) (text b)
+
+-- it keeps the laws
+pub place_laws : Lawful is_place places
+place_laws = lawful_from_total (on_total text bytes_total)
 
 -- the word of the eight bytes from a place on, the first byte highest, and 0 for a byte past the end
 abbrev pub word_from : ℕ → List ℕ → ℕ

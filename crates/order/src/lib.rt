@@ -4,11 +4,9 @@
 mod keys;
 mod loads;
 mod orders;
-mod place_names;
 mod places;
 
-pub use keys::{Comparison, Key};
-pub use loads::{LoadKey, LoadOrder};
+pub use keys::Key;
+pub use loads::{LoadKey, LoadOrder, NoLoad};
 pub use orders::Order;
-pub use place_names::PlaceName;
-pub use places::{FoldedPlaceOrder, place_key, place_name};
+pub use places::{FoldedPlaceOrder, NoName, PlaceName};

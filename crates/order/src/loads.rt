@@ -1,10 +1,13 @@
 //! Load keys, a truck and a second, and their order.
-ghost use Rattle.std.specs.Prelude.{◌≡◌, true};
+ghost use Rattle.std.specs.Prelude.{◌≡◌, true, Some, codes};
 ghost use Rattle.order.specs.Loads.{is_load, is_load_key, key_of_load, loads, load_laws};
-ghost use Rattle.order.specs.Refusals.{JustWhere};
+ghost use Rattle.order.specs.Refusals.{JustWhere, OkWhere};
 
-use crate::keys::{Comparison, Key};
+use crate::keys::Key;
 use crate::orders::Order;
+use std::cmp::Ordering;
+use std::error::Error;
+use std::fmt;
 
 const FIRST_TRUCK: u64 = 1;
 
@@ -13,18 +16,22 @@ const LAST_TRUCK: u64 = 9_999;
 const LAST_SECOND: u64 = 4_294_967_295;
 
 /// A truck and a second, both within their ranges.
-#[derive(Clone, Copy)]
+#[derive(Clone, Copy, PartialEq, Eq, Debug, Hash)]
 pub struct LoadKey {
     truck: u64,
     second: u64,
     ghost within: { is_load truck second ≡ true },
 }
 
+/// A key that stands for no load.
+#[derive(Clone, Copy, PartialEq, Eq, Debug, Hash)]
+pub struct NoLoad;
+
 // The one place in the code that knows the ranges.
 fn is_load(truck: u64, second: u64) -> bool
     ensures { result ≡ is_load truck second }
 {
-    truck >= FIRST_TRUCK && truck <= LAST_TRUCK && second <= LAST_SECOND
+    (FIRST_TRUCK..=LAST_TRUCK).contains(&truck) && second <= LAST_SECOND
 }
 
 impl LoadKey {
@@ -37,13 +44,6 @@ impl LoadKey {
         } else {
             None
         }
-    }
-
-    /// The load that a key stands for, or `None` where it stands for none.
-    pub fn from_key(k: Key) -> Option<LoadKey>
-        ensures { JustWhere (is_load_key k) (λ l. (l.truck ≡ k.hi) × (l.second ≡ k.lo)) result }
-    {
-        LoadKey::new(k.hi, k.lo)
     }
 
     /// The load's truck.
@@ -59,20 +59,41 @@ impl LoadKey {
     {
         self.second
     }
+}
 
-    /// The key that stands for the load: the truck in the first word, the second in the other.
-    pub fn key(&self) -> Key
-        ensures words { result ≡ key_of_load self.now.truck self.now.second }
-        ensures keyed { is_load_key result ≡ true }
-    {
+impl TryFrom<Key> for LoadKey {
+    type Error = NoLoad;
+
+    ghost try_from_gives = { λ k. OkWhere (is_load_key k) (λ l. (l.truck ≡ k.hi) × (l.second ≡ k.lo)) };
+
+    fn try_from(k: Key) -> Result<Self, NoLoad> {
+        LoadKey::new(k.hi, k.lo).ok_or(NoLoad)
+    }
+}
+
+impl From<LoadKey> for Key {
+    ghost from_gives = { λ load k. (k ≡ key_of_load load.truck load.second) × (is_load_key k ≡ true) };
+
+    fn from(load: LoadKey) -> Key {
         Key {
-            hi: self.truck,
-            lo: self.second,
+            hi: load.truck,
+            lo: load.second,
         }
     }
 }
 
+impl fmt::Display for NoLoad {
+    ghost output = { λ _. Some (codes "the key stands for no load") };
+
+    fn fmt<W: fmt::Write>(&self, f: &mut fmt::Formatter<W>) -> fmt::Result {
+        f.write_str("the key stands for no load")
+    }
+}
+
+impl Error for NoLoad {}
+
 /// The order of loads: by truck, then by second.
+#[derive(Clone, Copy, PartialEq, Eq, Debug, Default)]
 pub struct LoadOrder;
 
 impl Order for LoadOrder {
@@ -86,7 +107,7 @@ impl Order for LoadOrder {
         is_load(k.hi, k.lo)
     }
 
-    fn compare(a: Key, b: Key) -> Comparison {
-        Comparison::by_number(a.hi, b.hi).and_then(Comparison::by_number(a.lo, b.lo))
+    fn compare(a: Key, b: Key) -> Ordering {
+        a.hi.cmp(&b.hi).then(a.lo.cmp(&b.lo))
     }
 }

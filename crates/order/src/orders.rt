@@ -1,10 +1,11 @@
 //! What an index asks of an order of keys.
 ghost use Rattle.std.specs.Prelude.{◌≡◌, Bool};
 ghost use Rattle.order.specs.declared.keys.Key.{Key};
-ghost use Rattle.order.specs.declared.keys.Comparison.{Comparison};
+ghost use Rattle.std.specs.declared.cmp.Ordering.{Ordering};
 ghost use Rattle.order.specs.Laws.{Lawful};
 
-use crate::keys::{Comparison, Key};
+use crate::keys::Key;
+use std::cmp::Ordering;
 
 /// An order of keys: which pairs of words are keys, and how two keys stand to each other.
 ///
@@ -14,14 +15,14 @@ pub trait Order {
     ghost keyed: { Key → Bool };
 
     // How the first key stands to the second.
-    ghost compared: { Key → Key → Comparison };
+    ghost compared: { Key → Key → Ordering };
 
     /// Whether the two words are a key.
     fn is_key(k: Key) -> bool
         ensures { result ≡ keyed k };
 
     /// How `a` stands to `b`.
-    fn compare(a: Key, b: Key) -> Comparison
+    fn compare(a: Key, b: Key) -> Ordering
         ensures { result ≡ compared a b };
 
     // What every comparison of keys keeps.

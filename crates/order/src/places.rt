@@ -1,74 +1,39 @@
 //! Place keys, a name of 1 to 16 printed bytes, and their order, in which case does not count.
-ghost use Rattle.std.specs.Prelude.{◌≡◌, ◌-◌, ◌≤◌, ◌++◌, length, take, replicate, if◌then◌else◌, Some, None};
-ghost use Rattle.order.specs.Places.{text, unpadded, printed, all_printed, is_name, is_place, folded};
-ghost use Rattle.order.specs.Places.{by_folded_bytes, places, name_bytes, key_of_name, NamesAndKeys};
-ghost use Rattle.order.specs.PlaceNames.{held_bytes};
-ghost use Rattle.order.specs.Refusals.{JustWhere};
-ghost use Rattle.order.specs.Folding.{bytes_itself, bytes_exchange, bytes_onward};
+ghost use Rattle.std.specs.Prelude.{◌≡◌, ◌-◌, ◌≤◌, ◌++◌, true, length, map, take, replicate, Some, codes};
+ghost use Rattle.order.specs.Places.{text, unpadded, all_printed, is_name, is_place, folded, places, place_laws};
+ghost use Rattle.order.specs.Places.{name_bytes, key_of_name, NamesAndKeys};
 
-use crate::keys::{Comparison, Key};
+use crate::keys::Key;
 use crate::orders::Order;
-use crate::place_names::{LONGEST_NAME, PlaceName};
+use std::cmp::Ordering;
+use std::error::Error;
+use std::fmt;
+
+// The longest name of a place, in bytes.
+const LONGEST_NAME: usize = 16;
+
+/// The name of a place: the first `len` bytes of its text, which is 0 from there on.
+#[derive(Clone, Copy, PartialEq, Eq, Debug, Hash)]
+pub struct PlaceName {
+    text: [u8; LONGEST_NAME],
+    len: usize,
+    ghost within: { len ≤ length text },
+    ghost named: { is_name (take len text) ≡ true },
+    ghost padded: { unpadded text ≡ take len text },
+}
+
+/// Bytes, or a key, that are no name of a place.
+#[derive(Clone, Copy, PartialEq, Eq, Debug, Hash)]
+pub struct NoName;
 
 // The bytes of both words, as a name has them.
+#[tactic(auto, unfolding(crate::specs::Places::text))]
 fn text_of(key: Key) -> [u8; LONGEST_NAME]
     ensures { result ≡ text key }
 {
     let mut text = [0; LONGEST_NAME];
-    text[0..8].copy_from_slice(&key.hi.to_be_bytes());
-    text[8..16].copy_from_slice(&key.lo.to_be_bytes());
-    text
-}
-
-// A text up to its last byte that is not 0.
-fn without_padding(mut text: &[u8]) -> &[u8]
-    ensures { result.now ≡ unpadded text.now }
-{
-    while let [rest @ .., 0] = text {
-        text = rest;
-    }
-    text
-}
-
-// How much of a text is not padding.
-fn name_length(text: &[u8]) -> usize
-    ensures within { result ≤ length text.now }
-    ensures front { take result text.now ≡ unpadded text.now }
-{
-    without_padding(text).len()
-}
-
-// A blank is not printed, so no name holds one.
-fn is_printed(byte: u8) -> bool
-    ensures { result ≡ printed byte }
-{
-    byte >= 33 && byte <= 126
-}
-
-fn all_printed(bytes: &[u8]) -> bool
-    ensures { result ≡ all_printed bytes.now }
-{
-    for byte in bytes {
-        if !is_printed(*byte) {
-            return false;
-        }
-    }
-    true
-}
-
-fn is_name(bytes: &[u8]) -> bool
-    ensures { result ≡ is_name bytes.now }
-{
-    bytes.len() >= 1 && bytes.len() <= LONGEST_NAME && all_printed(bytes)
-}
-
-// A name with zeros up to the length of a text.
-fn padded(name: &[u8]) -> [u8; LONGEST_NAME]
-    requires { length name.now ≤ 16 }
-    ensures { result ≡ name.now ++ replicate (16 - length name.now) 0 }
-{
-    let mut text = [0; LONGEST_NAME];
-    text[0..name.len()].copy_from_slice(name);
+    text[..8].copy_from_slice(&key.hi.to_be_bytes());
+    text[8..].copy_from_slice(&key.lo.to_be_bytes());
     text
 }
 
@@ -83,73 +48,134 @@ fn key_of(text: [u8; LONGEST_NAME]) -> Key
     }
 }
 
-/// The key of the place that has a name, or `None` where the bytes are no name.
-pub fn place_key(name: &[u8]) -> Option<Key>
-    ensures key { result ≡ (if is_name name.now then Some (key_of_name name.now) else None) }
-    ensures inverse { NamesAndKeys }
+// A text up to its last byte that is not 0.
+#[tactic(auto, using(crate::proofs::Padding::unpadded_front, crate::proofs::Padding::unpadded_whole))]
+fn without_padding(mut text: &[u8]) -> &[u8]
+    ensures { result.now ≡ unpadded text.now }
 {
-    if is_name(name) {
-        Some(key_of(padded(name)))
-    } else {
-        None
+    while let [rest @ .., 0] = text {
+        text = rest;
     }
+    text
 }
 
-/// The name that a key holds, or `None` where the key is no place.
-pub fn place_name(key: Key) -> Option<PlaceName>
-    ensures name { JustWhere (is_place key) (λ held. held_bytes held ≡ name_bytes key) result }
-    ensures inverse { NamesAndKeys }
+// How much of a text is not padding.
+#[tactic(auto, using(crate::proofs::Padding::unpadded_is_front, crate::proofs::Padding::unpadded_no_longer))]
+fn name_length(text: &[u8]) -> usize
+    ensures within { result ≤ length text.now }
+    ensures front { take result text.now ≡ unpadded text.now }
 {
-    let name = PlaceName::held_in(key);
-    if is_name(name.bytes()) {
-        Some(name)
-    } else {
-        None
-    }
+    without_padding(text).len()
+}
+
+// A name with zeros up to the length of a text.
+fn padded(name: &[u8]) -> [u8; LONGEST_NAME]
+    requires { length name.now ≤ 16 }
+    ensures { result ≡ name.now ++ replicate (16 - length name.now) 0 }
+{
+    let mut text = [0; LONGEST_NAME];
+    text[..name.len()].copy_from_slice(name);
+    text
+}
+
+// A blank is not printed, so no name holds one.
+fn all_printed(bytes: &[u8]) -> bool
+    ensures { result ≡ all_printed bytes.now }
+{
+    bytes.iter().all(|byte| byte.is_ascii_graphic())
+}
+
+fn is_name(bytes: &[u8]) -> bool
+    ensures { result ≡ is_name bytes.now }
+{
+    (1..=LONGEST_NAME).contains(&bytes.len()) && all_printed(bytes)
 }
 
 impl PlaceName {
-    // What a key holds, before it is known to be a name.
-    fn held_in(key: Key) -> PlaceName
-        ensures { held_bytes result ≡ name_bytes key }
-    {
-        let text = text_of(key);
-        let len = name_length(&text);
-        PlaceName { text, len }
-    }
+    ghost use Rattle.order.specs.PlaceNames.{held_bytes};
 
     /// The bytes of the name.
     pub fn bytes(&self) -> &[u8]
-        ensures { result.now ≡ held_bytes self.now }
+        ensures held { result.now ≡ held_bytes self.now }
+        ensures named { is_name result.now ≡ true }
     {
-        &self.text[0..self.len]
+        &self.text[..self.len]
     }
 }
+
+impl TryFrom<&[u8]> for PlaceName {
+    ghost use Rattle.order.specs.PlaceNames.{HoldsBytes};
+
+    type Error = NoName;
+
+    ghost try_from_gives = { λ bytes. HoldsBytes bytes.now };
+
+    #[tactic(auto, using(crate::proofs::Names::held_when_padded))]
+    fn try_from(bytes: &[u8]) -> Result<Self, NoName> {
+        if !is_name(bytes) {
+            return Err(NoName);
+        }
+        Ok(PlaceName {
+            text: padded(bytes),
+            len: bytes.len(),
+        })
+    }
+}
+
+impl TryFrom<Key> for PlaceName {
+    ghost use Rattle.order.specs.PlaceNames.{HoldsNameOf};
+
+    type Error = NoName;
+
+    ghost try_from_gives = { HoldsNameOf };
+
+    #[tactic(auto, using(crate::proofs::Names::names_and_keys))]
+    fn try_from(key: Key) -> Result<Self, NoName>
+        ensures name { HoldsNameOf key result }
+        ensures inverse { NamesAndKeys }
+    {
+        let text = text_of(key);
+        let len = name_length(&text);
+        if !is_name(&text[..len]) {
+            return Err(NoName);
+        }
+        Ok(PlaceName { text, len })
+    }
+}
+
+impl From<PlaceName> for Key {
+    ghost use Rattle.order.specs.PlaceNames.{IsKeyOf};
+
+    ghost from_gives = { IsKeyOf };
+
+    #[tactic(auto, using(crate::proofs::Names::held_key, crate::proofs::Names::names_and_keys))]
+    fn from(name: PlaceName) -> Key
+        ensures key { IsKeyOf name result }
+        ensures inverse { NamesAndKeys }
+    {
+        key_of(name.text)
+    }
+}
+
+impl fmt::Display for NoName {
+    ghost output = { λ _. Some (codes "no name of 1 to 16 printed bytes") };
+
+    fn fmt<W: fmt::Write>(&self, f: &mut fmt::Formatter<W>) -> fmt::Result {
+        f.write_str("no name of 1 to 16 printed bytes")
+    }
+}
+
+impl Error for NoName {}
 
 // Small letters as great ones, so that case does not count.
-fn fold(byte: u8) -> u8
-    ensures { result ≡ folded byte }
+fn folded(text: [u8; LONGEST_NAME]) -> [u8; LONGEST_NAME]
+    ensures { result ≡ map folded text }
 {
-    match byte {
-        b'a'..=b'z' => byte - b'a' + b'A',
-        _ => byte,
-    }
-}
-
-// The first byte that differs, once folded, decides.
-fn compare_folded(a: [u8; LONGEST_NAME], b: [u8; LONGEST_NAME]) -> Comparison
-    ensures { result ≡ by_folded_bytes a b }
-{
-    for i in 0..LONGEST_NAME {
-        match Comparison::by_number(fold(a[i]) as u64, fold(b[i]) as u64) {
-            Comparison::Same => {}
-            different => return different,
-        }
-    }
-    Comparison::Same
+    text.map(|byte| byte.to_ascii_uppercase())
 }
 
 /// The order of places: byte by byte from the first, with a to z taken as A to Z.
+#[derive(Clone, Copy, PartialEq, Eq, Debug, Default)]
 pub struct FoldedPlaceOrder;
 
 impl Order for FoldedPlaceOrder {
@@ -157,17 +183,13 @@ impl Order for FoldedPlaceOrder {
 
     ghost compared = { places };
 
-    ghost lawful = { record {
-      itself = λ a _. bytes_itself (text a);
-      exchange = λ a b _ _. bytes_exchange (text a) (text b);
-      onward = λ a b c _ _ _. bytes_onward (text a) (text b) (text c);
-    } };
+    ghost lawful = { place_laws };
 
     fn is_key(k: Key) -> bool {
-        is_name(PlaceName::held_in(k).bytes())
+        is_name(without_padding(&text_of(k)))
     }
 
-    fn compare(a: Key, b: Key) -> Comparison {
-        compare_folded(text_of(a), text_of(b))
+    fn compare(a: Key, b: Key) -> Ordering {
+        folded(text_of(a)).cmp(&folded(text_of(b)))
     }
 }

@@ -1,5 +1,6 @@
 //! Load keys and their order.
-use order::{Comparison, Key, LoadKey, LoadOrder, Order};
+use order::{Key, LoadKey, LoadOrder, Order};
+use std::cmp::Ordering;
 use std::test::Fail;
 
 #[test]
@@ -21,22 +22,18 @@ fn words_that_are_load_keys(rt: HostRuntime) {
     );
     assert!(rt; !LoadOrder::is_key(Key { hi: 0, lo: 5 }));
     assert!(rt;
-        LoadKey::from_key(Key {
+        LoadKey::try_from(Key {
             hi: 5,
             lo: 4_294_967_296,
         })
-        .is_none()
+        .is_err()
     );
 }
 
 #[test]
 fn a_load_comes_back_from_its_key(rt: HostRuntime) -> Result<(), Fail> {
-    let Some(load) = LoadKey::new(7, 9) else {
-        return Err(Fail::new("truck 7 at second 9 is no load"));
-    };
-    let Some(again) = LoadKey::from_key(load.key()) else {
-        return Err(Fail::new("the key of a load is no load key"));
-    };
+    let load = LoadKey::new(7, 9).ok_or("truck 7 at second 9 is no load")?;
+    let again = LoadKey::try_from(Key::from(load))?;
     assert_eq!(rt; again.truck(), 7);
     assert_eq!(rt; again.second(), 9);
     Ok(())
@@ -47,11 +44,11 @@ fn trucks_first_then_seconds(rt: HostRuntime) {
     let early = Key { hi: 2, lo: 9 };
     assert_eq!(rt;
         LoadOrder::compare(early, Key { hi: 3, lo: 1 }),
-        Comparison::Before
+        Ordering::Less
     );
     assert_eq!(rt;
         LoadOrder::compare(early, Key { hi: 2, lo: 8 }),
-        Comparison::After
+        Ordering::Greater
     );
-    assert_eq!(rt; LoadOrder::compare(early, early), Comparison::Same);
+    assert_eq!(rt; LoadOrder::compare(early, early), Ordering::Equal);
 }

@@ -1,90 +1,148 @@
--- Parts of a list, turned round or replaced, as the edits of entries leave them.
-use Rattle.std.proofs.Common.{◌≡◌, ℕ, zero, suc, ◌+◌, ◌-◌, ◌<◌, ◌≤◌, min, List, [], ◌∷◌, ◌++◌, length, get_or, take, drop, set, sym, refl, ap, ◌∙◌, inl, inr, arith}
+-- The entries of a page in the memory for them, as the edits leave them.
+use Rattle.std.proofs.Common.{◌≡◌, ℕ, ◌+◌, ◌-◌, ◌<◌, ◌≤◌, List, [], ◌∷◌, ◌++◌, length, get_or, take, drop, set, replicate, Some, sym, ap, ◌∙◌, add-one, arith}
 use borrow.Rule.Slice.PartMut.{put_mid}
-use Rattle.std.proofs.lemmas.List.{append_assoc, length-append, length-take-le, length-drop, length_push, take_at, take_all, take-take, take-append-le, drop_at, drop_all, drop-drop, drop-append-le}
-use Rattle.std.proofs.lemmas.Slice.{take-put_mid, between_is}
-use Rattle.std.proofs.lemmas.Bool.{cases_lt}
+use Rattle.std.proofs.lemmas.List.{append_assoc, length-append, length-take-le, length-drop, length_push, take_at, take-append-le, drop_at, drop-drop, drop-append-le, drop-replicate, replicate-append-replicate, set_at, length-replicate}
+use Rattle.std.proofs.lemmas.List.Edits.{length-insert, length-remove, remove-append_left}
+use Rattle.std.proofs.lemmas.Slice.{between_is, put_mid-rotated}
+use Rattle.std.proofs.lemmas.Bool.Decides.{nat_tests}
+use Rattle.std.specs.List.{remove}
 use Rattle.order.specs.declared.keys.Key.{Key}
 use Rattle.page.specs.declared.entries.Entry.{Entry}
-use Rattle.page.specs.declared.entries.Entries.{Entries}
-use Rattle.page.specs.Entries.{list_of, insert_at, remove_at}
+use Rattle.page.specs.Entries.{entry_at, insert_at, remove_at}
+use Rattle.page.specs.Memory.{nothing, in_memory, IsPadded, counted}
 use Rattle.page.specs.Pages.{start_first}
 
--- there are as many entries as are counted
-pub length_list : (e : Entries) → length (list_of e) ≡ e.count
-length_list e = let few = e.few in let full = e.full in length-take-le e.count e.items (omega arith)
+-- where there is an entry, the place is not behind the last
+pub within_at : (xs : List Entry) (at : ℕ) (x : Entry) → Some x ≡ entry_at xs at → at < length xs
+within_at xs at x is = grind (arith, nat_tests)
 
--- one entry behind the others is counted
-pub count_pushed : (e f : Entries) (x : Entry) → list_of f ≡ list_of e ++ x ∷ [] → f.count ≡ e.count + 1
-count_pushed e f x is =
-    let before = length_list e in
-    let after = length_list f in
-    omega (arith, ap length is, length_push (list_of e) x)
+-- n entries stand in the memory, and zeros behind them
+pub record Holds (items : List Entry) (n : ℕ) (xs : List Entry) : Type 0 where
+  pub long : length xs ≡ n
+  pub few : n ≤ 18
+  pub whole : items ≡ xs ++ replicate (18 - n) nothing
+
+pub opened : {items : List Entry} {n : ℕ} {xs : List Entry} → take n items ≡ xs → IsPadded items n → Holds items n xs
+opened {items} {n} {xs} is held =
+    let long : length xs ≡ n = sym (ap length is) ∙ counted items n held in
+    record {
+      long = long;
+      few = held.few;
+      whole = held.whole ∙ ap in_memory is ∙ ap (λ m. xs ++ replicate (18 - m) nothing) long;
+    }
+
+pub viewed : {items : List Entry} {n : ℕ} {xs : List Entry} → Holds items n xs → take n items ≡ xs
+viewed {items} {n} {xs} held = ap (take n) held.whole ∙ take_at xs (replicate (18 - n) nothing) n held.long
+
+pub closed : {items : List Entry} {n : ℕ} {xs : List Entry} → Holds items n xs → IsPadded items n
+closed {items} {n} {xs} held =
+    record {
+      few = held.few;
+      whole =
+          held.whole
+          ∙ ap (λ m. xs ++ replicate (18 - m) nothing) (sym held.long)
+          ∙ ap in_memory (sym (viewed held));
+    }
+
+-- what is behind the entries
+behind : {items : List Entry} {n : ℕ} {xs : List Entry} → Holds items n xs → drop n items ≡ replicate (18 - n) nothing
+behind {items} {n} {xs} held = ap (drop n) held.whole ∙ drop_at xs (replicate (18 - n) nothing) n held.long
+
+-- and behind those from a place on
+behind_part : {items : List Entry} {n : ℕ} {xs : List Entry} (k : ℕ) → Holds items n xs → k ≤ n
+    → drop (n - k) (drop k items) ≡ replicate (18 - n) nothing
+behind_part {items} {n} k held low =
+    drop-drop (n - k) k items ∙ ap (λ m. drop m items) (omega arith) ∙ behind held
+
+-- the memory is for 18
+length_memory : {items : List Entry} {n : ℕ} {xs : List Entry} → Holds items n xs → length items ≡ 18
+length_memory {items} {n} {xs} held =
+    simp (length-append, length-replicate) at (ap length held.whole) ∙ omega (arith, held.long, held.few)
+
+-- what is written from the count on stands right behind the last
+pub put_behind : {items : List Entry} {n : ℕ} {xs : List Entry} (more ys : List Entry) → Holds items n xs
+    → length xs + length more ≤ 18 → ys ≡ more
+    → Holds (put_mid n (n + length more - n) items ys) (n + length more) (xs ++ more)
+put_behind {items} {n} {xs} more ys held room is =
+    let few : n + length more ≤ 18 = omega (arith, held.long) in
+    let front = viewed held in
+    let rest : drop (n + length more - n) (drop n items) ≡ replicate (18 - (n + length more)) nothing =
+    ap (drop (n + length more - n)) (behind held)
+    ∙ drop-replicate (n + length more - n) (18 - n) nothing
+    ∙ ap (λ k. replicate k nothing) (omega arith) in
+    let joined = append_assoc xs more (replicate (18 - (n + length more)) nothing) in
+    record { long = length-append xs more ∙ ap (λ k. k + length more) held.long; few = few; whole = cc }
 
 -- the last entry, turned to the front of those from a place on, stands before the one that had that place
-pub last_to_front : (items xs : List Entry) (e : Entry) (ys zs : List Entry) (at n : ℕ)
-    → at ≤ length xs → n ≤ length items → take n items ≡ xs ++ e ∷ []
-    → zs ≡ take (n - at) (drop at items) → ys ≡ drop (length zs - 1) zs ++ take (length zs - 1) zs
-    → take n (put_mid at (n - at) items ys) ≡ insert_at xs at e
-last_to_front items xs e ys zs at n low high pushed is turned =
-    let all : n ≡ length xs + 1 = omega (arith, length-take-le n items high, ap length pushed, length_push xs e) in
+pub put_before : {items : List Entry} {n : ℕ} (xs : List Entry) (e : Entry) (at : ℕ) (ys zs : List Entry)
+    → Holds items n (xs ++ e ∷ []) → at ≤ length xs → zs ≡ take (n - at) (drop at items)
+    → ys ≡ drop (length zs - 1) zs ++ take (length zs - 1) zs
+    → Holds (put_mid at (n - at) items ys) n (insert_at xs at e)
+put_before {items} {n} xs e at ys zs held low is turned =
+    let all : n ≡ length xs + 1 = sym held.long ∙ length_push xs e in
     let back : zs ≡ drop at xs ++ e ∷ [] =
-    is ∙ between_is items at n ∙ ap (drop at) pushed ∙ drop-append-le at xs (e ∷ []) low in
+    is ∙ between_is items at n ∙ ap (drop at) (viewed held) ∙ drop-append-le at xs (e ∷ []) low in
     let long : length (drop at xs) ≡ length zs - 1 = omega (arith, ap length back, length_push (drop at xs) e) in
     let last = drop_at (drop at xs) (e ∷ []) (length zs - 1) long in
     let others = take_at (drop at xs) (e ∷ []) (length zs - 1) long in
     let ends : ys ≡ e ∷ drop at xs = cc in
     let front : take at items ≡ take at xs =
-    sym (take-take at n items (omega arith)) ∙ ap (take at) pushed ∙ take-append-le at xs (e ∷ []) low in
-    take-put_mid at (n - at) items ys n (omega (arith, ap length ends, length-drop at xs)) (omega arith)
-    ∙ cc
+    ap (take at) held.whole
+    ∙ take-append-le at (xs ++ e ∷ []) _ (omega (arith, held.long))
+    ∙ take-append-le at xs (e ∷ []) low in
+    let rest : drop (n - at) (drop at items) ≡ replicate (18 - n) nothing = behind_part at held (omega arith) in
+    let joined = append_assoc (take at xs) (e ∷ drop at xs) (replicate (18 - n) nothing) in
+    record { long = length-insert xs at e low ∙ sym all; few = held.few; whole = cc }
 
--- the first of the entries from a place on, turned to their end and no longer counted, is out
-pub first_to_end : (items ys zs : List Entry) (at n : ℕ) → at < n → n ≤ length items
-    → zs ≡ take (n - at) (drop at items) → ys ≡ drop 1 zs ++ take 1 zs
-    → take (n - 1) (put_mid at (n - at) items ys) ≡ remove_at (take n items) at
-first_to_end items ys zs at n low high is turned =
-    let xs = take n items in
-    let within : zs ≡ drop at xs = is ∙ between_is items at n in
-    let rest : drop 1 zs ≡ drop (at + 1) xs = ap (drop 1) within ∙ drop-drop 1 at xs in
-    let front : take at items ≡ take at xs = sym (take-take at n items (omega arith)) in
-    let short : length (take at items) ≡ at = length-take-le at items (omega arith) in
-    let all : length xs ≡ n = length-take-le n items high in
-    let left : length (drop (at + 1) xs) ≡ n - (at + 1) = omega (arith, length-drop (at + 1) xs) in
-    let long : length (take at items ++ drop 1 zs) ≡ n - 1 =
-    length-append (take at items) (drop 1 zs) ∙ omega (arith, ap length rest) in
-    let behind = drop (n - at) (drop at items) in
-    ap (λ t. take (n - 1) (take at items ++ (t ++ behind))) turned
-    ∙ ap (take (n - 1)) (simp append_assoc)
-    ∙ take_at (take at items ++ drop 1 zs) (take 1 zs ++ behind) (n - 1) long
-    ∙ cc
+-- an entry of zeros
+pub default_is : (e : Entry) → (e.key.hi ≡ 0 × e.key.lo ≡ 0) × e.value ≡ 0 → e ≡ nothing
+default_is e zeros = λ i. record { key = record { hi = zeros.0.0 i; lo = zeros.0.1 i }; value = zeros.1 i }
 
--- up to a place, or to the end if that comes first
-pub cut_front : (items : List Entry) (n at k : ℕ) → n ≤ length items → k ≡ min at n
-    → take k items ≡ take at (take n items)
-cut_front items n at k high is = elim (cases_lt at n) [
-  | inl within ↦ ap (λ m. take m items) (omega arith) ∙ sym (take-take at n items (omega arith))
-  | inr past ↦
-      let all = length-take-le n items high in
-      ap (λ m. take m items) (omega arith) ∙ sym (take_all at (take n items) (omega arith))
-]
+-- the entry at a place, turned to the end of the memory and blotted out there, is out
+pub taken_out : {items : List Entry} {n : ℕ} {xs : List Entry} (at : ℕ) (ys : List Entry) (e : Entry)
+    → Holds items n xs → at < length xs
+    → ys ≡ drop 1 (take (18 - at) (drop at items)) ++ take 1 (take (18 - at) (drop at items)) → e ≡ nothing
+    → Holds (set (put_mid at (18 - at) items ys) 17 e) (n - 1) (remove_at xs at)
+taken_out {items} {n} {xs} at ys e held within turned blank =
+    let rest : List Entry = replicate (18 - n) nothing in
+    let all : length items ≡ 18 = length_memory held in
+    let one : remove xs at ≡ remove_at xs at = ap (λ k. take at xs ++ drop k xs) (sym (add-one at)) in
+    let fewer : length (remove_at xs at) ≡ n - 1 =
+    omega (arith, length-remove xs at within, ap length one, held.long) in
+    let left = ap (λ t. remove t at) held.whole ∙ remove-append_left xs rest at within in
+    let long : length (remove_at xs at ++ rest) ≡ 17 =
+    length-append (remove_at xs at) rest
+    ∙ omega (arith, fewer, length-replicate (18 - n) nothing, held.long, held.few) in
+    let moved =
+    put_mid-rotated at (18 - at) items ys nothing (omega (arith, held.long, held.few)) (omega arith) turned in
+    let blotted = set_at (remove_at xs at ++ rest) (get_or items at nothing) [] nothing 17 long in
+    let joined = append_assoc (remove_at xs at) rest (nothing ∷ []) in
+    let zeros = replicate-append-replicate (18 - n) 1 nothing in
+    let fits : 18 - n + 1 ≡ 18 - (n - 1) = omega (arith, held.long, held.few) in
+    record { long = fewer; few = omega (arith, held.few); whole = cc }
 
--- from a place on, turned to the front, and none if the end comes first
-pub cut_back : (items : List Entry) (n at k : ℕ) → n ≤ length items → k ≡ min at n
-    → take (n - k) (drop k items ++ take k items) ≡ drop at (take n items)
-cut_back items n at k high is =
-    take-append-le (n - k) (drop k items) (take k items) (omega (arith, length-drop k items))
-    ∙ between_is items k n
-    ∙ elim (cases_lt at n) [
-      | inl within ↦ ap (λ m. drop m (take n items)) (omega arith)
-      | inr past ↦
-          let all = length-take-le n items high in
-          drop_all k (take n items) (omega arith) ∙ sym (drop_all at (take n items) (omega arith))
-    ]
+-- entries that are blotted out from a place on
+pub cut_off : {items : List Entry} {n : ℕ} {xs : List Entry} (k : ℕ) (ys : List Entry) (e : Entry)
+    → Holds items n xs → k ≤ n → e ≡ nothing → ys ≡ replicate (length (take (n - k) (drop k items))) e
+    → Holds (put_mid k (n - k) items ys) k (take k xs)
+cut_off {items} {n} {xs} k ys e held low blank is =
+    let all : length items ≡ 18 = length_memory held in
+    let wide : length (take (n - k) (drop k items)) ≡ n - k =
+    length-take-le (n - k) (drop k items) (omega (arith, all, held.few, length-drop k items)) in
+    let front : take k items ≡ take k xs =
+    ap (take k) held.whole ∙ take-append-le k xs _ (omega (arith, held.long)) in
+    let rest = behind_part k held low in
+    let zeros = replicate-append-replicate (n - k) (18 - n) nothing in
+    let fits : n - k + (18 - n) ≡ 18 - k = omega (arith, held.few) in
+    record { long = length-take-le k xs (omega (arith, held.long)); few = omega (arith, held.few); whole = cc }
 
 -- the first entry with another key
-pub first_key : (n : ℕ) (es : List Entry) (k : Key) (d : Entry)
-    → take n (set es 0 (record { key = k; value = (get_or es 0 d).value })) ≡ start_first k (take n es)
-first_key zero es k d = refl
-first_key (suc n) [] k d = refl
-first_key (suc n) (e ∷ es) k d = refl
+pub first_key : {items : List Entry} {n : ℕ} (xs : List Entry) (k : Key) (d : Entry) → Holds items n xs → 0 < n
+    → Holds (set items 0 (record { key = k; value = (get_or items 0 d).value })) n (start_first k xs)
+first_key [] k d held some = absurd (omega (arith, held.long))
+first_key (x ∷ xs) k d held some =
+    record {
+      long = held.long;
+      few = held.few;
+      whole = ap (λ t. set t 0 (record { key = k; value = (get_or t 0 d).value })) held.whole;
+    }

@@ -2,15 +2,12 @@
 use Rattle.std.specs.Prelude.{ℕ, ◌+◌, Bool, cond, ◌&&◌, List, ◌∷◌, ◌++◌, length, take, drop, Some, None, Option, nat_le, nat_lt, slice_index_or}
 use Rattle.page.specs.declared.entries.Entry.{Entry}
 use Rattle.page.specs.declared.entries.Entries.{Entries}
+use Rattle.page.specs.Memory.{nothing}
 use Rattle.page.specs.Pages.{most_entries}
 
--- the list of the entries, as many as there are
+-- the list of the entries, which is what a contract sees of them
 abbrev pub list_of : Entries → List Entry
-list_of e = take e.count e.items
-
--- an entry of zeros, which stands for none
-abbrev pub nothing : Entry
-nothing = record { key = record { hi = 0; lo = 0 }; value = 0 }
+list_of e = e
 
 -- the entry at a place, and none behind the last
 abbrev pub entry_at : List Entry → ℕ → Option Entry

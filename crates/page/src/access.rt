@@ -4,7 +4,7 @@ ghost use Rattle.order.specs.Refusals.{JustWhere};
 ghost use Rattle.page.specs.Buffers.{page_of, head_of, can_read, put_if_there};
 ghost use Rattle.page.specs.Pages.{words_of, head_words, is_there, page_at, page_run};
 
-use crate::layout::{PAGE_WORDS, head_words, page_from, page_words};
+use crate::layout::PAGE_WORDS;
 use crate::pages::{HeadBuf, PageBuf};
 use store::Store;
 
@@ -12,11 +12,10 @@ use store::Store;
 pub fn read_word<S: Store>(store: &S, at: u64) -> u64
     ensures { result ≡ slice_index (S.words store.now) at }
 {
-    match store.read(at) {
-        Some(word) => word,
-        None => 0,
-    }
+    store.read(at).unwrap_or(0)
 }
+
+// Two functions for words 3 and 4, since each reads the one word that is asked for; one for both would be `read_word`.
 
 /// The first free page, or 0: word 3 of page 0.
 pub fn read_free<S: Store>(store: &S) -> u64
@@ -50,28 +49,26 @@ fn load<S: Store>(store: &S, page: u64) -> Option<[u64; PAGE_WORDS]>
     ensures { JustWhere (is_there (S.words store.now) page)
         (λ ws. ws ≡ page_run (S.words store.now) page) result }
 {
-    let Some(place) = place_of(store, page) else {
-        return None;
-    };
+    let place = place_of(store, page)?;
     let mut loaded = [0; PAGE_WORDS];
-    for i in 0..PAGE_WORDS {
-        loaded[i] = store.read(place + i as u64)?;
+    for (i, word) in loaded.iter_mut().enumerate() {
+        *word = store.read(place + i as u64)?;
     }
     Some(loaded)
 }
 
 // Puts 64 words in the place of a page's, and says whether it is there. If it is not, nothing changes.
-fn save<S: Store>(store: &mut S, page: u64, from: &[u64]) -> bool
-    requires { length from.now ≡ 64 }
+fn save<S: Store>(store: &mut S, page: u64, from: &[u64; PAGE_WORDS]) -> bool
     ensures said { result ≡ is_there (S.words store.old) page }
     ensures saved { S.words store.new
         ≡ put_if_there (S.words store.old) page from.now }
+    ensures long { length (S.words store.new) ≡ length (S.words store.old) }
 {
     let Some(place) = place_of(store, page) else {
         return false;
     };
-    for i in 0..PAGE_WORDS {
-        store.write(place + i as u64, from[i]);
+    for (i, word) in from.iter().enumerate() {
+        store.write(place + i as u64, *word);
     }
     true
 }
@@ -82,7 +79,7 @@ pub fn read_page<S: Store>(store: &S, page: u64) -> Option<PageBuf>
         (λ b. page_of b ≡ page_at (S.words store.now) page) result }
 {
     let loaded = load(store, page)?;
-    page_from(&loaded)
+    PageBuf::try_from(&loaded).ok()
 }
 
 /// Writes a page, and says whether it is there. If it is not, nothing changes.
@@ -90,8 +87,9 @@ pub fn write_page<S: Store>(store: &mut S, page: u64, buf: &PageBuf) -> bool
     ensures said { result ≡ is_there (S.words store.old) page }
     ensures written { S.words store.new
         ≡ put_if_there (S.words store.old) page (words_of (page_of buf.now)) }
+    ensures long { length (S.words store.new) ≡ length (S.words store.old) }
 {
-    save(store, page, &page_words(buf))
+    save(store, page, &buf.into())
 }
 
 /// Writes page 0, and says whether it is there. If it is not, nothing changes.
@@ -99,6 +97,7 @@ pub fn write_head<S: Store>(store: &mut S, head: HeadBuf) -> bool
     ensures said { result ≡ is_there (S.words store.old) 0 }
     ensures written { S.words store.new
         ≡ put_if_there (S.words store.old) 0 (head_words (head_of head)) }
+    ensures long { length (S.words store.new) ≡ length (S.words store.old) }
 {
-    save(store, 0, &head_words(head))
+    save(store, 0, &head.into())
 }

@@ -8,5 +8,5 @@ pub mod pages;
 
 pub use access::{read_free, read_page, read_root, read_word, write_head, write_page};
 pub use entries::{Entries, Entry, MOST_ENTRIES};
-pub use layout::{PAGE_WORDS, head_words, page_from, page_words};
+pub use layout::{HEAD_MARK, PAGE_WORDS, TooManyEntries};
 pub use pages::{HeadBuf, PageBuf, PageState};

@@ -6,9 +6,10 @@ use crate::entries::Entries;
 use order::Key;
 
 /// What word 0 of a page says.
-#[derive(Clone, Copy)]
+#[derive(Clone, Copy, PartialEq, Eq, Debug, Default)]
 pub enum PageState {
     /// 0: not in use, linked to the next free page
+    #[default]
     Free,
     /// 1: part of the tree
     Live,
@@ -18,11 +19,10 @@ pub enum PageState {
     Damaged,
 }
 
-impl PageState {
-    /// The state that a word 0 stands for.
-    pub fn from_word(word: u64) -> PageState
-        ensures { result ≡ state_of word }
-    {
+impl From<u64> for PageState {
+    ghost from_gives = { λ word state. state ≡ state_of word };
+
+    fn from(word: u64) -> PageState {
         match word {
             0 => PageState::Free,
             1 => PageState::Live,
@@ -30,12 +30,13 @@ impl PageState {
             _ => PageState::Damaged,
         }
     }
+}
 
-    /// The word 0 of a page in this state.
-    pub fn word(self) -> u64
-        ensures { result ≡ state_word self }
-    {
-        match self {
+impl From<PageState> for u64 {
+    ghost from_gives = { λ state word. word ≡ state_word state };
+
+    fn from(state: PageState) -> u64 {
+        match state {
             PageState::Free => 0,
             PageState::Live => 1,
             PageState::Gone => 2,
@@ -45,7 +46,7 @@ impl PageState {
 }
 
 /// A page's parts.
-#[derive(Clone, Copy)]
+#[derive(Clone, Copy, PartialEq, Eq, Debug, Default)]
 pub struct PageBuf {
     /// What the page is used for.
     pub state: PageState,
@@ -62,7 +63,7 @@ pub struct PageBuf {
 }
 
 /// What page 0 says.
-#[derive(Clone, Copy)]
+#[derive(Clone, Copy, PartialEq, Eq, Debug, Default)]
 pub struct HeadBuf {
     /// The number of pages.
     pub pages: u64,

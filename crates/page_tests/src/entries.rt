@@ -12,17 +12,14 @@ fn entry(value: u64) -> Entry {
 // Entries with the values from 1 on.
 fn rising(n: u64) -> Entries {
     let mut entries = Entries::new();
-    for i in 0..n {
-        entries.push(entry(i + 1));
+    for value in 1..=n {
+        entries.push(entry(value));
     }
     entries
 }
 
 fn value_at(entries: &Entries, at: usize) -> u64 {
-    match entries.get(at) {
-        Some(entry) => entry.value,
-        None => 0,
-    }
+    entries.get(at).map_or(0, |entry| entry.value)
 }
 
 #[test]
@@ -53,13 +50,13 @@ fn inserts_behind_the_end_are_refused(rt: HostRuntime) {
 #[test]
 fn removes_at_both_ends(rt: HostRuntime) {
     let mut entries = rising(18);
-    assert!(rt; !entries.remove(18));
-    assert!(rt; entries.remove(17));
-    assert!(rt; entries.remove(0));
+    assert_eq!(rt; entries.remove(18), None);
+    assert_eq!(rt; entries.remove(17), Some(entry(18)));
+    assert_eq!(rt; entries.remove(0), Some(entry(1)));
     assert_eq!(rt; entries.len(), 16);
     assert_eq!(rt; value_at(&entries, 0), 2);
     assert_eq!(rt; value_at(&entries, 15), 17);
-    assert!(rt; !Entries::new().remove(0));
+    assert_eq!(rt; Entries::new().remove(0), None);
 }
 
 #[test]

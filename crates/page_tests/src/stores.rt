@@ -1,19 +1,12 @@
 //! Pages in a store of words, which has two and a half of them.
-use page::{
-    Entries, HeadBuf, PageBuf, PageState, read_free, read_page, read_root, read_word, write_head,
-    write_page,
-};
+use page::{HeadBuf, PageBuf, read_free, read_page, read_root, read_word, write_head, write_page};
 use store::Store;
 use store::words::WordStore;
 
 fn empty(link: u64) -> PageBuf {
     PageBuf {
-        state: PageState::Free,
-        level: 0,
         link,
-        start: None,
-        end: None,
-        entries: Entries::new(),
+        ..PageBuf::default()
     }
 }
 

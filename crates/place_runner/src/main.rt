@@ -3,18 +3,9 @@
 #![tactic(auto)]
 
 use runner::places::run_places;
-use runner::runs::{ANSWER_LINE, CALL_LINE};
+use runner::program::answer_calls;
 use std::io;
-use std::io::{Read, Write};
-
-const MOST_LINES: usize = 800;
 
 fn main(rt: HostRuntime) -> io::Result<()> {
-    let mut input = Vec::new(rt.alloc());
-    rt.stdin()
-        .take((MOST_LINES * CALL_LINE) as u64)
-        .read_to_end(&mut input)?;
-    let mut output = [0; MOST_LINES * ANSWER_LINE];
-    let lines = run_places(input.as_slice(), &mut output);
-    rt.stdout().write_all(&output[..ANSWER_LINE * lines])
+    answer_calls(rt.stdin(), &mut rt.stdout(), run_places)
 }

@@ -1,50 +1,37 @@
 -- Every run from before its index is made is a history, with the reference beside it.
-use Rattle.std.proofs.Common.{◌≡◌, ℕ, zero, suc, true, false, eqb, ltb, ◌⊎◌, List, [], ◌∷◌, length, Some, None, Option, sym, refl, ap, ◌∙◌, subst, inl, inr}
-use Rattle.std.proofs.lemmas.Bool.{cases_Bool, cond-true, cond-false, cond_both, true≢false, both_ways, eqb-true}
+use Rattle.std.proofs.Common.{◌≡◌, ℕ, zero, suc, true, false, eqb, ◌⊎◌, List, [], ◌∷◌, Some, None, Option, refl, ap, ◌∙◌, inl, inr, arith}
+use Rattle.std.proofs.lemmas.Bool.Decides.{nat_tests}
+use Rattle.std.proofs.lemmas.Bool.{cond_both, eqb-true}
 use Rattle.model.specs.Answers.{code}
 use Rattle.model.specs.CallPromises.{Called}
 use Rattle.model.specs.Calls.{Call, step}
 use Rattle.model.specs.Entries.{KeyOrder}
 use Rattle.model.specs.Histories.{Pair, Starts, both, after}
-use Rattle.model.specs.Promises.{Laws, AsReference}
+use Rattle.model.specs.Promises.{Laws}
 use Rattle.model.specs.Reference.{empty}
-use Rattle.model.specs.Starts.{format, is_fill}
-use Rattle.model.specs.States.{State, Outcome}
+use Rattle.model.specs.Starts.{format}
+use Rattle.model.specs.States.{State}
 use Rattle.model.proofs.CallPromises.{called, format_called}
 use Rattle.runner.specs.declared.lines.Request.{Request}
 use Rattle.runner.specs.Lines.{request_of}
-use Rattle.runner.specs.Runs.{Asked, makes, calls, asked_by, is_made, is_due, step_of, Reply, done, reply_to}
+use Rattle.runner.specs.Runs.{Asked, makes, calls, asked_by, is_made, is_due, step_of, done, reply_to}
 use Rattle.runner.specs.Runs.{line_step, line_at, state_at, reply_at}
 use Rattle.runner.specs.RunPromises.{both_run, both_after, pair_at, Kept, LineKept, RunKept}
 
 -- a format that does not answer 20 changes nothing
 format_refused : (fill : ℕ) (s : State) → eqb (code (format fill s).answer) 20 ≡ false → (format fill s).after ≡ s
-format_refused fill s =
-    let Same : Outcome → Type 0 = λ x. eqb (code x.answer) 20 ≡ false → x.after ≡ s in
-    cond_both (ltb (length s.words) 128) _ _ Same (λ _ _. refl)
-    (λ _. cond_both (is_fill fill) _ _ Same (λ _ twenty. absurd (true≢false twenty)) (λ _ _. refl))
+format_refused fill s other = grind (arith, nat_tests)
 
 -- a request does to the index what its step does
 run_state : (o : KeyOrder) (a : Asked) (p : Pair) → (both_run o a p).state ≡ (step_of o a p.state).after
-run_state o (makes fill) p =
-    cond_both (eqb (code (format fill p.state).answer) 20) _ _
-    (λ (x : Pair). x.state ≡ (format fill p.state).after) (λ _. refl)
-    (λ other. sym (format_refused fill p.state other))
+run_state o (makes fill) p = grind (arith, format_refused)
 run_state o (calls c) p = refl
 
 -- and so does a line
 line_state : (o : KeyOrder) (x : Option Request) (p : Pair) (line : ℕ)
     → (both_after o x p).state ≡ (reply_to o x line p.state).next
 line_state o None p line = refl
-line_state o (Some q) p line = elim (cases_Bool (is_due (asked_by q) p.state)) [
-  | inl due ↦
-      ap (λ (x : Pair). x.state) (cond-true _ _ _ due)
-      ∙ run_state o (asked_by q) p
-      ∙ ap (λ (x : Reply). x.next) (sym (cond-true _ _ _ due))
-  | inr early ↦
-      ap (λ (x : Pair). x.state) (cond-false _ _ _ early)
-      ∙ ap (λ (x : Reply). x.next) (sym (cond-false _ _ _ early))
-]
+line_state o (Some q) p line = grind (arith, run_state)
 
 -- a history that leads to an index and its reference
 record History (o : KeyOrder) (p : Pair) : Type 0 where
@@ -63,7 +50,7 @@ module _ (o : KeyOrder) (laws : Laws o) (start : State) (unmade : is_made start 
 
   -- no call is due at the start
   none_due : (p : Pair) → is_made p.state ≡ true → p ≡ base → ⊥
-  none_due p due e = both_ways (is_made start) unmade (ap (λ (x : Pair). is_made x.state) (sym e) ∙ due)
+  none_due p due e = cc
 
   -- a request that is run leads on
   led_run : (a : Asked) (p : Pair) → is_due a p.state ≡ true → Led p → Led (both_run o a p)
@@ -107,16 +94,14 @@ module _ (o : KeyOrder) (laws : Laws o) (start : State) (unmade : is_made start 
         starts = h.starts;
         history = h.history;
         leads = h.leads;
-        reference = subst (λ (r : Pair). AsReference o c r x.code x.figure x.next) h.leads
-            (all.reference h.first h.starts h.history here);
+        reference = rw h.leads at (all.reference h.first h.starts h.history here);
         sound = all.sound h.first h.starts h.history here;
       }
 
   -- and so has a line
   line_kept : (x : Option Request) (p : Pair) (line : ℕ) → Led p → LineKept o x p (reply_to o x line p.state)
   line_kept None p line led = tt
-  line_kept (Some q) p line led = λ due.
-      subst (λ (x : Reply). Kept o (asked_by q) p x) (sym (cond-true _ _ _ due)) (run_kept (asked_by q) p due led)
+  line_kept (Some q) p line led = λ due. rw due (run_kept (asked_by q) p due led)
 
   module _ (input : List ℕ) where
     led_at : (i : ℕ) → Led (pair_at o input start i)
@@ -134,10 +119,8 @@ module _ (o : KeyOrder) (laws : Laws o) (start : State) (unmade : is_made start 
         → LineKept o (request_of (line_at input i)) (pair_at o input start i) (reply_at o input start i)
     unfolding line_step
     kept_at i =
-        let asks = request_of (line_at input i) in
-        let p = pair_at o input start i in
-        subst (λ (s : State). LineKept o asks p (reply_to o asks (suc i) s)) (beside_at i)
-        (line_kept asks p (suc i) (led_at i))
+        let kept = line_kept (request_of (line_at input i)) (pair_at o input start i) (suc i) (led_at i) in
+        rw (beside_at i) at kept
 
     -- all of it, for a run from before its index is made
     pub run_is_kept : RunKept o input start

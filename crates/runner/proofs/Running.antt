@@ -1,14 +1,34 @@
 -- The steps of the loop that runs lines.
-use Rattle.std.proofs.Common.{◌≡◌, ℕ, ◌+◌, ◌*◌, ◌^◌, ◌<◌, ◌≤◌, List, length, sym, refl, ap, ◌∙◌, subst, add-one, arith}
-use Rattle.std.proofs.lemmas.List.{length-append}
+use Rattle.std.proofs.Common.{◌≡◌, ℕ, zero, suc, ◌+◌, ◌*◌, ◌^◌, ◌<◌, ◌≤◌, List, [], length, get_or, take, drop, sym, refl, ap, ◌∙◌, subst, add-one, arith}
+use Rattle.std.specs.Simd.{first_chunks}
+use Rattle.std.proofs.lemmas.List.{length-append, length-take, get_or-take, drop-drop}
 use Rattle.store.specs.Overlay.{overlay}
 use Rattle.store.proofs.Overlays.{overlay_none, overlay_append}
 use Rattle.model.specs.Entries.{KeyOrder}
 use Rattle.model.specs.States.{State}
 use Rattle.runner.specs.Lines.{answer_line}
-use Rattle.runner.specs.Runs.{line_step, line_at, state_at, reply_at, answers_to}
+use Rattle.runner.specs.Runs.{Reply, line_step, line_at, state_at, reply_at, answers_to}
 use Rattle.runner.proofs.Answers.{length_answer_line}
-use Rattle.runner.proofs.Replies.{Gives, gives_same}
+use Rattle.runner.proofs.Replies.{line_short}
+
+-- a chunk of the input is a line of it
+line_of_chunk : (n i : ℕ) (input : List ℕ) → i < length (first_chunks 73 n input)
+    → get_or (first_chunks 73 n input) i [] ≡ line_at input i
+line_of_chunk zero i input within = absurd (omega arith)
+line_of_chunk (suc n) zero input within = refl
+line_of_chunk (suc n) (suc i) input within =
+    let here : 73 + 73 * i ≡ 73 * suc i = omega arith in
+    line_of_chunk n i (drop 73 input) (omega arith)
+    ∙ ap (take 73) (drop-drop (73 * i) 73 input ∙ ap (λ k. drop k input) here)
+
+-- so is one of the first m chunks
+pub line_of_first : (n m i : ℕ) (input : List ℕ) (chunks : List (List ℕ)) → chunks ≡ first_chunks 73 n input
+    → i < length (take m chunks) → get_or (take m chunks) i [] ≡ line_at input i
+line_of_first n m i input chunks cut within =
+    let long = length-take m chunks in
+    get_or-take m chunks i [] (omega arith)
+    ∙ ap (λ (cs : List (List ℕ)). get_or cs i []) cut
+    ∙ line_of_chunk n i input (omega (arith, ap length cut))
 
 module _ (o : KeyOrder) (input : List ℕ) (start : State) (entry : List ℕ) where
   -- the first i lines are run, and their answers are laid over the output
@@ -22,39 +42,29 @@ module _ (o : KeyOrder) (input : List ℕ) (start : State) (entry : List ℕ) wh
   run_none = record { state = refl; long = refl; laid = sym (overlay_none entry 0) }
 
   module _ (i : ℕ) (s : State) (output : List ℕ) (so_far : RunTo i s output) where
-    -- the reply to line i, from the state that the loop has
-    reply_here : (line : List ℕ) → line ≡ line_at input i → line_step o line (i + 1) s ≡ reply_at o input start i
-    reply_here line same =
-        ap (λ (bytes : List ℕ). line_step o bytes (i + 1) s) same
-        ∙ ap (λ (x : State). line_step o (line_at input i) (i + 1) x) so_far.state
-        ∙ ap (λ (n : ℕ). line_step o (line_at input i) n (state_at o input start i)) (add-one i)
-
     -- one line more
-    pub run_more : (line : List ℕ) (number shown : ℕ) (next : State) (laid : List ℕ) → line ≡ line_at input i
-        → Gives number shown next (line_step o line (i + 1) s) → number < 1000 → shown < 2 ^ 64
-        → 25 * i + 25 ≤ length entry → laid ≡ overlay output (25 * i) (answer_line number shown)
-        → RunTo (i + 1) next laid
-    run_more line number shown next laid same gives short small room put =
-        let here = gives_same number shown next _ _ (reply_here line same) gives in
+    pub run_more : (line : List ℕ) (code figure : ℕ) (next : State) (laid : List ℕ) → line ≡ line_at input i
+        → code ≡ (line_step o line (i + 1) s).code → figure ≡ (line_step o line (i + 1) s).figure
+        → next ≡ (line_step o line (i + 1) s).next → figure < 2 ^ 64 → 25 * i + 25 ≤ length entry
+        → laid ≡ overlay output (25 * i) (answer_line code figure) → RunTo (i + 1) next laid
+    run_more line code figure next laid same coded figured stated small room put =
         let answers = answers_to o input start i in
         let reply = reply_at o input start i in
         let answer = answer_line reply.code reply.figure in
-        let is : answer_line number shown ≡ answer =
-        ap (λ n. answer_line n shown) here.code ∙ ap (answer_line reply.code) here.figure in
-        let bytes : length answer ≡ 25 = ap length (sym is) ∙ length_answer_line number shown short small in
-        let before = so_far.long in
-        subst (λ n. RunTo n next laid) (sym (add-one i))
+        let number = add-one i in
+        let before = so_far.state in
+        let here : line_step o line (i + 1) s ≡ reply = cc in
+        let is : answer_line code figure ≡ answer = cc in
+        let short = line_short o (line_at input i) (suc i) (state_at o input start i) in
+        let bytes : length answer ≡ 25 = length_answer_line reply.code reply.figure short
+        (omega (arith, figured, ap (λ (r : Reply). r.figure) here)) in
+        let long = so_far.long in
+        subst (λ n. RunTo n next laid) (sym number)
         (record {
-          state = here.state;
+          state = cc;
           long = length-append answers answer ∙ omega arith;
           laid = put
               ∙ ap (overlay output (25 * i)) is
               ∙ ap (λ (bs : List ℕ). overlay bs (25 * i) answer) so_far.laid
               ∙ overlay_append entry 0 answers (25 * i) answer (omega arith) (omega arith);
         })
-
--- the answers of a run from a start under another name
-pub answers_from : (o : KeyOrder) (input output laid : List ℕ) (n : ℕ) (s t : State) → s ≡ t
-    → laid ≡ overlay output 0 (answers_to o input s n) → laid ≡ overlay output 0 (answers_to o input t n)
-answers_from o input output laid n s t same h =
-    h ∙ ap (λ (x : State). overlay output 0 (answers_to o input x n)) same

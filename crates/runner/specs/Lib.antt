@@ -1,3 +1,4 @@
 pub mod Lines
 pub mod Runs
 pub mod RunPromises
+pub mod Programs

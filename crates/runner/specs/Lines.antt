@@ -1,10 +1,11 @@
 -- Call lines and answer lines: right-justified numbers in columns, and a newline.
-use Rattle.std.specs.Prelude.{◌≡◌, ℕ, true, cond, List, [], ◌∷◌, Some, None, Option, ◌==◌, slice_index}
+use Rattle.std.specs.Prelude.{◌≡◌, ℕ, cond, List, [], ◌∷◌, Some, None, Option, Result, MatchResult, ◌==◌, slice_index}
 use Rattle.order.specs.declared.keys.Key.{Key}
-use Rattle.store.specs.Columns.{line_of, line_numbers, fits}
+use Rattle.store.specs.Columns.{line_of, line_numbers}
 use Rattle.runner.specs.declared.lines.CallLine.{CallLine}
 use Rattle.runner.specs.declared.lines.Request.{Request}
 use Rattle.runner.specs.declared.lines.Request.TheVariants.{Format, Begin, Turn, Withdraw, Post, Merge, Raise, Sweep}
+use Rattle.runner.specs.declared.lines.UnknownCall.{UnknownCall}
 
 -- the columns of a call line: the call, its console, page or fill, the kind, two key words and the value
 abbrev pub call_widths : List ℕ
@@ -17,13 +18,6 @@ argument_widths = 5 ∷ 2 ∷ 21 ∷ 21 ∷ 21 ∷ []
 -- the columns of an answer line: the code and the figure
 abbrev pub answer_widths : List ℕ
 answer_widths = 3 ∷ 21 ∷ []
-
--- numbers that fit these columns have one line, and each line that can be read is that of its numbers alone
-abbrev pub OneLineIn : List ℕ → Type 0
-OneLineIn widths =
-    ((numbers : List ℕ) → fits widths numbers ≡ true → line_numbers widths (line_of widths numbers) ≡ Some numbers) ×
-    ((bytes numbers : List ℕ) → line_numbers widths bytes ≡ Some numbers →
-    (fits widths numbers ≡ true) × (line_of widths numbers ≡ bytes))
 
 -- the line of an answer; it opens only by name, so that a goal keeps its name
 unfoldable pub answer_line : ℕ → ℕ → List ℕ
@@ -56,6 +50,11 @@ request_in l =
     (cond (l.call == 6) (Some (Merge l.argument))
     (cond (l.call == 7) (Some Raise)
     (cond (l.call == 8) (Some Sweep) None)))))))
+
+-- the result is what the line asks for, or the number of its call, which is not that of a call
+abbrev pub AsksFor : CallLine → Result Request UnknownCall → Type 0
+AsksFor l r =
+    MatchResult r (λ q. request_in l ≡ Some q) (λ e. (request_in l ≡ None) × (e.0 ≡ l.call))
 
 -- what a line asks for, if it can be read
 abbrev pub asked : Option CallLine → Option Request

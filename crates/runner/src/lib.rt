@@ -4,4 +4,5 @@
 pub mod lines;
 pub mod loads;
 pub mod places;
+pub mod program;
 pub mod runs;

@@ -5,7 +5,7 @@ ghost use Rattle.model.specs.Example.{load_order, zeros};
 ghost use Rattle.runner.specs.Runs.{answers_to};
 ghost use Rattle.runner.specs.RunPromises.{RunKept};
 
-use crate::runs::run_new;
+use crate::runs::{NEW_WORDS, run_new};
 use order::LoadOrder;
 use store::words::WordStore;
 
@@ -16,6 +16,7 @@ pub fn run_loads(input: &[u8], output: &mut [u8]) -> usize
         (answers_to load_order input.now (zeros 3072) result) }
     ensures promises { RunKept load_order input.now (zeros 3072) }
 {
-    let mut words = [0; 3072];
+    // `run_new` is all that it shares with `run_places`: the memory differs in type, and stays here while it is lent
+    let mut words = [0; NEW_WORDS];
     run_new::<WordStore, LoadOrder>(WordStore::new(&mut words), input, output)
 }

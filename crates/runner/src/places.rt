@@ -1,26 +1,24 @@
 //! The run of call lines over text, in the order of place names.
-ghost use Rattle.std.specs.Prelude.{◌≡◌, ◌/◌, min, length, replicate};
+ghost use Rattle.std.specs.Prelude.{◌≡◌, ◌/◌, min, length};
 ghost use Rattle.store.specs.Overlay.{overlay};
-ghost use Rattle.store.specs.Text.{text_of};
+ghost use Rattle.store.specs.Text.{word_line};
 ghost use Rattle.model.specs.Example.{place_order, zeros};
 ghost use Rattle.runner.specs.Runs.{answers_to};
 ghost use Rattle.runner.specs.RunPromises.{RunKept};
 
-use crate::runs::run_new;
+use crate::runs::{NEW_WORDS, run_new};
 use order::FoldedPlaceOrder;
 use store::columns::write_line;
 use store::form::{COLUMN, LINE};
 use store::text::TextStore;
 
-// Lays lines of zeros over a text, as many as it has room for.
-fn fill_with_zeros(text: &mut [u8])
-    ensures { text.new
-        ≡ overlay text.old 0 (text_of (replicate (length text.old / 21) 0)) }
+// The line of the word 0.
+fn zero_line() -> [u8; LINE]
+    ensures { result ≡ word_line 0 }
 {
-    let lines = text.len() / LINE;
-    for i in 0..lines {
-        write_line(&[COLUMN], &[0], &mut text[LINE * i..LINE * i + LINE]);
-    }
+    let mut line = [0; LINE];
+    write_line(&[COLUMN], &[0], &mut line);
+    line
 }
 
 /// Runs call lines, as `run` does, over 48 pages of zeros, as text, in which place names are kept.
@@ -30,7 +28,7 @@ pub fn run_places(input: &[u8], output: &mut [u8]) -> usize
         (answers_to place_order input.now (zeros 3072) result) }
     ensures promises { RunKept place_order input.now (zeros 3072) }
 {
-    let mut text = [0; 64_512];
-    fill_with_zeros(&mut text);
-    run_new::<TextStore, FoldedPlaceOrder>(TextStore::open(&mut text), input, output)
+    // `run_new` is all that it shares with `run_loads`: the memory differs in type, and stays here while it is lent
+    let mut lines = [zero_line(); NEW_WORDS];
+    run_new::<TextStore, FoldedPlaceOrder>(TextStore::open(lines.as_flattened_mut()), input, output)
 }

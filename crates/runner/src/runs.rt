@@ -19,6 +19,9 @@ pub const CALL_LINE: usize = 73;
 /// The bytes of an answer line.
 pub const ANSWER_LINE: usize = 25;
 
+// The words of the 48 pages over which `run_loads` and `run_places` make their indexes.
+pub(crate) const NEW_WORDS: usize = 48 * 64;
+
 // The code of a line that is not run.
 const NOT_RUN: u64 = 13;
 
@@ -55,6 +58,7 @@ fn perform<S: Store, O: Order>(index: &mut Index<S, O>, request: Request) -> (u6
 }
 
 // Answers one line, of this number: 13 with the number where it is not run, and then nothing changes.
+#[tactic(auto, using(crate::proofs::Replies::performed_gives), unfolding(crate::specs::Runs::line_step))]
 fn answer_line<S: Store, O: Order>(index: &mut Index<S, O>, line: &[u8], number: u64) -> (u64, u64)
     ensures code { result.0 ≡ (line_step (rule_of O.keyed O.compared) line.now number
         (state_of S.words index.old)).code }
@@ -69,21 +73,22 @@ fn answer_line<S: Store, O: Order>(index: &mut Index<S, O>, line: &[u8], number:
     }
 }
 
-// Lays an answer line over the line `i` of the output.
-fn put_answer(output: &mut [u8], i: usize, code: u64, figure: u64)
-    requires { (25 * i + 25 ≤ length output.old) × (code < 1000) }
-    ensures { output.new ≡ overlay output.old (25 * i) (answer_line code figure) }
+// Lays an answer line over the line `i` of the output. It goes by the index, since no contract of std says what a slice
+// holds once its `chunks_exact_mut` or `as_chunks_mut` were written to.
+#[tactic(auto, using(crate::proofs::Answers::answer_laid))]
+fn put_answer(output: &mut [u8], i: usize, answer: (u64, u64))
+    requires { (25 * i + 25 ≤ length output.old) × (answer.0 < 1000) }
+    ensures { output.new ≡ overlay output.old (25 * i) (answer_line answer.0 answer.1) }
 {
-    write_answer(
-        &mut output[ANSWER_LINE * i..ANSWER_LINE * i + ANSWER_LINE],
-        code,
-        figure,
-    );
+    let (code, figure) = answer;
+    let at = ANSWER_LINE * i;
+    write_answer(&mut output[at..at + ANSWER_LINE], code, figure);
 }
 
 /// Runs call lines over an index, each 73 bytes of the input a line, and writes an answer line of 25 bytes for each
 /// to the output. It stops when whole lines or room for an answer run out, and says how many lines it answered.
 /// Bytes of the output behind their answers are left as they were.
+#[tactic(auto, using(crate::proofs::Histories::run_is_kept))]
 pub fn run<S: Store, O: Order>(index: &mut Index<S, O>, input: &[u8], output: &mut [u8]) -> usize
     ensures lines { result ≡ min (length input.now / 73) (length output.old / 25) }
     ensures answers { output.new ≡ overlay output.old 0
@@ -93,13 +98,13 @@ pub fn run<S: Store, O: Order>(index: &mut Index<S, O>, input: &[u8], output: &m
     ensures promises { is_made (state_of S.words index.old) ≡ false →
         RunKept (rule_of O.keyed O.compared) input.now (state_of S.words index.old) }
 {
-    let lines = (input.len() / CALL_LINE).min(output.len() / ANSWER_LINE);
-    for i in 0..lines {
-        let line = &input[CALL_LINE * i..CALL_LINE * i + CALL_LINE];
-        let (code, figure) = answer_line(index, line, i as u64 + 1);
-        put_answer(output, i, code, figure);
+    let (whole, _) = input.as_chunks::<CALL_LINE>();
+    let lines = &whole[..whole.len().min(output.len() / ANSWER_LINE)];
+    for (i, line) in lines.iter().enumerate() {
+        let answer = answer_line(index, line, i as u64 + 1);
+        put_answer(output, i, answer);
     }
-    lines
+    lines.len()
 }
 
 /// Runs call lines, as `run` does, over an index on this store that is not made yet. The store is let go at the end.

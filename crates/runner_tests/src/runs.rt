@@ -1,7 +1,12 @@
 //! Lines that are not run, and input and output that end early.
 use runner::loads::run_loads;
+use runner::program::answer_calls;
 
-const NOT_RUN: &[u8; 25] = b" 13                    1\n";
+const NOT_RUN: [u8; 25] = *b" 13                    1\n";
+
+// A format with fill 4.
+const FORMAT: [u8; 73] =
+    *b" 1    4 0                    0                    0                    0\n";
 
 fn answer(line: &[u8]) -> [u8; 25] {
     let mut output = [0; 25];
@@ -14,42 +19,42 @@ fn answer(line: &[u8]) -> [u8; 25] {
 fn lines_that_are_not_run(rt: HostRuntime) {
     assert_eq!(rt;
         answer(b" 3    0 0                    0                    0                    0\n"),
-        *NOT_RUN,
+        NOT_RUN,
         "a call before the index is made"
     );
     assert_eq!(rt;
         answer(b" 0    4 0                    0                    0                    0\n"),
-        *NOT_RUN,
+        NOT_RUN,
         "call 0"
     );
     assert_eq!(rt;
         answer(b" 9    4 0                    0                    0                    0\n"),
-        *NOT_RUN,
+        NOT_RUN,
         "call 9"
     );
     assert_eq!(rt;
         answer(b" 1   04 0                    0                    0                    0\n"),
-        *NOT_RUN,
+        NOT_RUN,
         "a leading zero"
     );
     assert_eq!(rt;
         answer(b" 1\t   4 0                    0                    0                    0\n"),
-        *NOT_RUN,
+        NOT_RUN,
         "a tab"
     );
     assert_eq!(rt;
         answer(b" 1      0                    0                    0                    0\n"),
-        *NOT_RUN,
+        NOT_RUN,
         "an empty column"
     );
     assert_eq!(rt;
         answer(b" 1    4 0                    0                    0 18446744073709551616\n"),
-        *NOT_RUN,
+        NOT_RUN,
         "a number that is too large"
     );
     assert_eq!(rt;
         answer(b" 1    4 0                    0                    0                    0 "),
-        *NOT_RUN,
+        NOT_RUN,
         "another last byte"
     );
 }
@@ -57,8 +62,8 @@ fn lines_that_are_not_run(rt: HostRuntime) {
 // Two lines, and room for one answer less a byte, for two less a byte, and for two.
 #[test]
 fn too_little_room(rt: HostRuntime) {
-    let input =
-        b" 1    4 0                    0                    0                    0\n 1    4 0                    0                    0                    0\n";
+    let lines = [FORMAT; 2];
+    let input = lines.as_flattened();
     let mut none = [b'.'; 24];
     let mut one = [b'.'; 49];
     let mut both = [b'.'; 50];
@@ -75,13 +80,28 @@ fn too_little_room(rt: HostRuntime) {
 
 #[test]
 fn partial_last_line(rt: HostRuntime) {
-    let input =
-        b" 1    4 0                    0                    0                    0\n 1    4 0                    0                    0                    0\n";
+    let lines = [FORMAT; 2];
+    let input = lines.as_flattened();
     let mut output = [b'.'; 50];
     assert_eq!(rt; run_loads(&input[..72], &mut output), 0);
     assert_eq!(rt; run_loads(&input[..145], &mut output), 1);
     assert_eq!(rt;
         output,
         *b" 20                   48\n........................."
+    );
+}
+
+// What a reader gives is run, and the answer goes behind what the writer has.
+#[test]
+fn read_and_written(rt: HostRuntime) {
+    let lines = [FORMAT; 2];
+    let mut written = Vec::new(rt.alloc());
+    let first = answer_calls(&lines.as_flattened()[..145], &mut written, run_loads);
+    let second = answer_calls(b"".as_slice(), &mut written, run_loads);
+    assert!(rt; first.is_ok());
+    assert!(rt; second.is_ok());
+    assert_eq!(rt;
+        written.as_slice(),
+        b" 20                   48\n".as_slice()
     );
 }

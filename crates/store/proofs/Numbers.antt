@@ -1,10 +1,13 @@
 -- A number in a column: what is written is read back, and what is read is written so.
-use Rattle.std.proofs.Common.{◌≡◌, ℕ, zero, suc, ◌+◌, ◌-◌, ◌/◌, ◌%◌, ◌^◌, ◌<◌, ◌≤◌, true, eqb, List, [], ◌∷◌, ◌++◌, length, get_or, replicate, Some, decimal, sym, refl, ap, ◌∙◌, inl, inr, arith, rules}
-use Rattle.std.specs.Str.{all_ascii_digits}
-use Rattle.std.proofs.lemmas.List.{length-append, length_push, length-replicate}
-use Rattle.std.proofs.lemmas.Str.Parse.{IsNumeralModel, numerals_by_fold}
-use Rattle.std.proofs.lemmas.Fmt.{digits_decimal, digits_value-decimal, decimal-digits_value, first_decimal, decimal_nonempty, decimal_digit, decimal_step, length-decimal-le}
-use Rattle.std.proofs.lemmas.Bool.{cases_lt, and_parts, ne_eqb, eqb-true, cond_both, lt-ltb, le-leb}
+use Rattle.std.proofs.Common.{◌≡◌, ℕ, zero, suc, ◌+◌, ◌-◌, ◌^◌, ◌<◌, ◌≤◌, true, false, eqb, List, [], ◌∷◌, ◌++◌, length, get_or, take, drop, replicate, Some, None, Ok, Err, Result, decimal, sym, refl, ap, ◌∙◌, inl, inr, arith, rules}
+use Rattle.std.specs.Result.{result_ok}
+use Rattle.std.specs.Str.{IsUtf8, all_ascii_digits}
+use Rattle.std.specs.Str.Parse.{ParsesUnsigned}
+use Rattle.std.proofs.lemmas.List.{length-append, length-replicate, take_rest}
+use Rattle.std.proofs.lemmas.Str.{IsUtf8-from_ascii}
+use Rattle.std.proofs.lemmas.Str.Parse.{IsNumeralModel, numerals_by_fold, parse_plain}
+use Rattle.std.proofs.lemmas.Fmt.{digits_decimal, digits_value-decimal, decimal-digits_value, first_decimal, decimal_nonempty, decimal_digit, length-decimal-le, IsAscii-from_digits}
+use Rattle.std.proofs.lemmas.Bool.{cases_lt, and_parts, ne_eqb, eqb-true, cond_both, lt-ltb, le-leb, false_from_ne_true}
 use Rattle.std.proofs.lemmas.Bool.Decides.{nat_tests}
 use Rattle.store.specs.Columns.{column, fits_column, trimmed, read_on, plain_front, are_digits, is_column, column_number}
 
@@ -15,11 +18,6 @@ own = numerals_by_fold _ (search rules) read_on (search rules)
 -- a word has at most 20 digits
 pub twenty_digits : (n : ℕ) → n < 2 ^ 64 → length (decimal n) ≤ 20
 twenty_digits n small = length-decimal-le 20 n (omega arith) (omega arith) small
-
--- each further digit takes a step of ten
-pub length_decimal_step : (n : ℕ) → 10 ≤ n → n < 2 ^ 64 → length (decimal n) ≡ length (decimal (n / 10)) + 1
-length_decimal_step n more small =
-    ap length (decimal_step n more small) ∙ length_push (decimal (n / 10)) (48 + n % 10)
 
 -- a column that the number fits has its width
 pub length_column : (w n : ℕ) → fits_column w n ≡ true → length (column w n) ≡ w
@@ -34,6 +32,11 @@ length_column w n fit =
 pub trimmed_other : (xs : List ℕ) → (0 < length xs → get_or xs 0 0 ≡ 32 → ⊥) → trimmed xs ≡ xs
 trimmed_other [] e = refl
 trimmed_other (x ∷ xs) e = rw (ne_eqb x 32 (e (omega arith)))
+
+-- a space in front is left out, where the rest is as a slice pattern has it
+pub trimmed_space : (xs : List ℕ) → get_or xs 0 0 ≡ 32 → trimmed xs ≡ trimmed (take (length xs - 1) (drop 1 xs))
+trimmed_space [] e = refl
+trimmed_space (x ∷ xs) e = rw (take_rest (x ∷ xs) 1, e)
 
 -- spaces in front are left out
 trimmed_spaces : (k : ℕ) (xs : List ℕ) → trimmed (replicate k 32 ++ xs) ≡ trimmed xs
@@ -101,6 +104,26 @@ numeral_only ds front digits =
     let lead : get_or ds 0 0 ≡ 48 → length ds ≡ 1 = λ e. grind (arith, nat_tests) in
     let small : read_on 0 ds < 2 ^ 64 = grind (arith, nat_tests) in
     (small, decimal-digits_value own ds all some lead small)
+
+-- bytes that are no text are no number
+pub column_no_text : (bytes : List ℕ) → (IsUtf8 (trimmed bytes) → ⊥) → column_number bytes ≡ None
+column_no_text bytes broken =
+    let text = trimmed bytes in
+    let other : all_ascii_digits text ≡ false =
+    false_from_ne_true (all_ascii_digits text)
+    (λ e. broken (IsUtf8-from_ascii text (IsAscii-from_digits text (own.to text e)))) in
+    grind (arith, nat_tests)
+
+-- `parse` reads a column's number, if no zero stands in front of other digits, and no plus
+pub column_parsed : {E : Type 0} (bytes : List ℕ) (r : Result ℕ E)
+    → (get_or (trimmed bytes) 0 0 ≡ 48 → length (trimmed bytes) ≤ 1) → (get_or (trimmed bytes) 0 0 ≡ 43 → ⊥)
+    → ParsesUnsigned 64 10 (trimmed bytes) r → result_ok r ≡ column_number bytes
+column_parsed {E} bytes (Ok n) lead plus parsed =
+    let is = parse_plain own {E = E} 64 (trimmed bytes) (Ok n) parsed plus in
+    grind (arith, nat_tests)
+column_parsed {E} bytes (Err e) lead plus parsed =
+    let is = parse_plain own {E = E} 64 (trimmed bytes) (Err e) parsed plus in
+    grind (arith, nat_tests)
 
 -- what is read is written so
 pub column_only : (bytes : List ℕ) (n : ℕ) → column_number bytes ≡ Some n

@@ -1,12 +1,14 @@
 -- Words as text: a line, and the text that lines make.
-use Rattle.std.proofs.Common.{◌≡◌, ℕ, zero, suc, ◌+◌, ◌-◌, ◌*◌, ◌/◌, ◌^◌, ◌<◌, ◌≤◌, min, Bool, true, false, cond, eqb, List, [], ◌∷◌, ◌++◌, map, length, get_or, take, drop, is_some, Some, None, decimal, Option, sym, refl, ap, ◌∙◌, inl, inr, arith}
+use Rattle.std.proofs.Common.{◌≡◌, ℕ, zero, suc, ◌+◌, ◌-◌, ◌*◌, ◌/◌, ◌^◌, ◌<◌, ◌≤◌, min, Bool, true, false, cond, eqb, List, [], ◌∷◌, ◌++◌, map, length, get_or, take, drop, is_some, Some, None, Err, decimal, Option, sym, refl, ap, ◌∙◌, inl, inr, arith}
 use Rattle.std.specs.List.{range_with_len, AllByRecursion}
-use Rattle.std.proofs.lemmas.List.{length-append, length-take, length-drop, take_at, drop_at, drop-drop, take-append-drop, take_all, drop_all}
+use Rattle.std.proofs.lemmas.List.{length-append, length-take, length-drop, take_at, drop_at, drop-drop, take-append-drop, take_min, drop_all}
 use Rattle.std.proofs.lemmas.List.FromFn.{length-map-range_with_len, get_or-map-range_with_len, fill_by_all}
 use Rattle.std.proofs.ByRecursion.{All-get_or, All-from_get_or}
 use Rattle.std.proofs.lemmas.Bool.{and_from, cases_lt, eq-eqb, le-leb, lt-ltb, false≢true}
 use Rattle.store.specs.Columns.{column, line_of, fits, fits_line, line_numbers}
 use Rattle.store.specs.Overlay.{run}
+use Rattle.store.specs.Test.{Found}
+use Rattle.store.specs.declared.form.BadLine.{BadLine}
 use Rattle.store.specs.Text.{word_line, first_of, line_word, is_line, text_of, line_at, LinesTo, InForm, or_zero, word_in}
 use Rattle.store.specs.Text.{words_to, words_in, Small, OneTextForm}
 use Rattle.store.proofs.Fitting.{fits_lengths}
@@ -101,18 +103,34 @@ module _ (bytes : List ℕ) (i : ℕ) (line : is_line (line_at bytes i) ≡ true
       let k = length-take 21 (drop (21 * i) bytes) in
       omega (arith, length-drop (21 * i) bytes)
 
--- a line as the test cuts it from the text
-pub cut_line : (bytes : List ℕ) (i n : ℕ) → n ≡ min 21 (length bytes - 21 * i)
-    → take (21 * i + n - 21 * i) (drop (21 * i) bytes) ≡ line_at bytes i
-unfolding run
-cut_line bytes i n cut =
-    let rest = drop (21 * i) bytes in
-    let left = length-drop (21 * i) bytes in
-    let k : 21 * i + n - 21 * i ≡ n = omega arith in
-    ap (λ m. take m rest) k ∙ elim (cases_lt (length rest) 21) [
-      | inl short ↦ take_all n rest (omega arith) ∙ sym (take_all 21 rest (omega arith))
-      | inr long ↦ let all : n ≡ 21 = omega arith in ap (λ m. take m rest) all
-    ]
+-- a chunk of 21 bytes, or of what is left, which is cut off where the line i begins
+module _ (bytes rest line behind : List ℕ) (i : ℕ) (from : rest ≡ drop (21 * i) bytes) (cut : rest ≡ line ++ behind)
+    (long : length line ≡ min 21 (length rest)) where
+  -- it is that line
+  pub chunk_line : line ≡ line_at bytes i
+  unfolding run
+  chunk_line =
+      sym (ap (take 21) (sym from) ∙ sym (take_min 21 rest) ∙ ap (λ n. take n rest) (sym long) ∙ ap (take (length line)) cut
+      ∙ take_at line behind (length line) refl)
+
+  -- if it is the line of a word, the next line begins behind it
+  pub chunk_behind : is_line line ≡ true → (21 * (i + 1) ≤ length bytes) × (behind ≡ drop (21 * (i + 1)) bytes)
+  chunk_behind word =
+      let room = line_room bytes i (ap is_line (sym chunk_line) ∙ word) in
+      let left = ap length from ∙ length-drop (21 * i) bytes in
+      let whole : length line ≡ 21 = omega arith in
+      let next : 21 * (i + 1) ≡ 21 * i + 21 = omega arith in (
+        omega arith,
+        sym (drop_at line behind 21 whole) ∙ ap (drop 21) (sym cut ∙ from) ∙ drop-drop 21 (21 * i) bytes
+            ∙ ap (λ n. drop n bytes) (sym next),
+      )
+
+-- the test finds a line that is not one, behind lines that are
+pub bad_found : (bytes : List ℕ) (bad : BadLine) (i : ℕ) → bad.0 ≡ i + 1 → 21 * i < length bytes
+    → is_line (line_at bytes i) ≡ false → LinesTo bytes i → Found bytes (Err bad)
+bad_found bytes bad i at within fault lines =
+    let same : bad.0 - 1 ≡ i = omega arith in
+    (omega arith, omega arith, ap (λ k. is_line (line_at bytes k)) same ∙ fault, λ k h. lines k (omega arith))
 
 -- n lines hold n words
 pub length_words : (bytes : List ℕ) (n : ℕ) → length (words_to bytes n) ≡ n

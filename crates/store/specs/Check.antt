@@ -1,17 +1,18 @@
 -- What is said of a text that a program is given.
-use Rattle.std.specs.Prelude.{ℕ, ◌<◌, ◌≤◌, List, ◌++◌, length, codes, decimal}
+use Rattle.std.specs.Prelude.{ℕ, ◌<◌, ◌≤◌, List, ◌++◌, length, codes, decimal, Ok, Err, Result}
 use Rattle.store.specs.Test.{Found}
-use Rattle.store.specs.declared.form.TextTest.TheVariants.{Words, Fault}
-use Rattle.store.specs.declared.check.Finding.{Finding}
-use Rattle.store.specs.declared.check.Finding.TheVariants.{Tested, TooLong}
+use Rattle.store.specs.declared.check.Words.{Words}
+use Rattle.store.specs.declared.check.TextError.{TextError}
+use Rattle.store.specs.declared.check.TextError.TheVariants.{BadLine, TooLong}
 
--- more bytes than 262,144 lines have, or what the test of the text finds
-abbrev pub Finds : List ℕ → Finding → Type 0
-Finds bytes (Tested test) = (length bytes ≤ 5505024) × Found bytes test
-Finds bytes TooLong = 5505024 < length bytes
+-- what the test of the text finds, or more bytes than 262,144 lines have
+abbrev pub Finds : List ℕ → Result Words TextError → Type 0
+Finds bytes (Ok words) = (length bytes ≤ 5505024) × Found bytes (Ok words.0)
+Finds bytes (Err (BadLine bad)) = (length bytes ≤ 5505024) × Found bytes (Err bad)
+Finds bytes (Err TooLong) = 5505024 < length bytes
 
 -- what is printed of it
-abbrev pub shown_of : Finding → List ℕ
-shown_of (Tested (Words n)) = codes "words " ++ decimal n
-shown_of (Tested (Fault k)) = codes "12 " ++ decimal k
-shown_of TooLong = codes "the input has more than 262144 lines"
+abbrev pub shown_of : Result Words TextError → List ℕ
+shown_of (Ok words) = codes "words " ++ decimal words.0
+shown_of (Err (BadLine bad)) = codes "12 " ++ decimal bad.0
+shown_of (Err TooLong) = codes "the input has more than 262144 lines"

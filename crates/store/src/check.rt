@@ -1,43 +1,65 @@
 //! What is said of a text that a program is given.
-ghost use Rattle.std.specs.Prelude.{Some};
+ghost use Rattle.std.specs.Prelude.{◌≡◌, Ok, Err, Some};
 ghost use Rattle.store.specs.Check.{Finds, shown_of};
+ghost use Rattle.store.specs.declared.check.TextError.TheVariants.{BadLine};
 
-use crate::form::{TextTest, test_text};
+use crate::form::{BadLine, LINE, test_text};
+use std::error::Error;
 use std::fmt;
 
 /// How many bytes a text may have: 4,096 pages of 64 lines, which are 262,144 lines.
-pub const MOST_BYTES: usize = 5_505_024;
+pub const MOST_BYTES: usize = 4_096 * 64 * LINE;
 
-/// What a text is found to be.
+/// How many words a text holds.
 #[derive(Clone, Copy, PartialEq, Eq, Debug)]
-pub enum Finding {
-    /// It is not too long, and was tested.
-    Tested(TextTest),
+pub struct Words(pub u64);
+
+/// `words 128` for a text of 128 words.
+impl fmt::Display for Words {
+    ghost output = { λ words. Some (shown_of (Ok words)) };
+
+    fn fmt<W: fmt::Write>(&self, f: &mut fmt::Formatter<W>) -> fmt::Result {
+        write!(f, "words {}", self.0)
+    }
+}
+
+/// Why a text is refused.
+#[derive(Clone, Copy, PartialEq, Eq, Debug)]
+pub enum TextError {
+    /// It is not in form.
+    BadLine(BadLine),
     /// It has more than 262,144 lines.
     TooLong,
 }
 
-/// Tests a text that has at most 262,144 lines, and refuses a longer one.
-pub fn check_text(input: &[u8]) -> Finding
-    ensures { Finds input.now result }
-{
-    if input.len() > MOST_BYTES {
-        Finding::TooLong
-    } else {
-        Finding::Tested(test_text(input))
-    }
-}
-
-/// `words 128` for a text of 128 words, `12 3` where line 3 is the first that is not in form,
-/// and plain words for a text that is too long.
-impl fmt::Display for Finding {
-    ghost output = { λ x. Some (shown_of x) };
+/// `12 3` where line 3 is the first that is not in form, and plain words for a text that is too long.
+impl fmt::Display for TextError {
+    ghost output = { λ error. Some (shown_of (Err error)) };
 
     fn fmt<W: fmt::Write>(&self, f: &mut fmt::Formatter<W>) -> fmt::Result {
         match self {
-            Finding::Tested(TextTest::Words(words)) => write!(f, "words {words}"),
-            Finding::Tested(TextTest::Fault(line)) => write!(f, "12 {line}"),
-            Finding::TooLong => f.write_str("the input has more than 262144 lines"),
+            TextError::BadLine(error) => write!(f, "{error}"),
+            TextError::TooLong => f.write_str("the input has more than 262144 lines"),
         }
     }
+}
+
+impl Error for TextError {}
+
+impl From<BadLine> for TextError {
+    ghost from_gives = { λ bad error. error ≡ BadLine bad };
+
+    fn from(bad: BadLine) -> TextError {
+        TextError::BadLine(bad)
+    }
+}
+
+/// Tests a text that has at most 262,144 lines, and refuses a longer one.
+pub fn check_text(input: &[u8]) -> Result<Words, TextError>
+    ensures { Finds input.now result }
+{
+    if input.len() > MOST_BYTES {
+        return Err(TextError::TooLong);
+    }
+    Ok(Words(test_text(input)?))
 }

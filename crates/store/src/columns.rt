@@ -1,27 +1,11 @@
 //! Lines of decimal columns: each number stands at the right of its column, with spaces before it.
-ghost use Rattle.std.specs.Prelude.{◌≡◌, ◌-◌, ◌≤◌, true, ◌++◌, length, take, drop, replicate, if◌then◌else◌, Some, None, decimal};
-ghost use Rattle.store.specs.Columns.{column, line_of, fits_column, fits_line, trimmed, are_digits, read_on};
-ghost use Rattle.store.specs.Columns.{column_number, is_end, line_numbers, OneLine};
+ghost use Rattle.std.specs.Prelude.{◌≡◌, true, length, if◌then◌else◌};
+ghost use Rattle.store.specs.Columns.{column, line_of, fits_column, fits_line, trimmed, column_number, line_numbers, OneLine};
 
-// The number that digits write, where all bytes are digits and it fits.
-fn read_digits(text: &[u8]) -> Option<u64>
-    ensures { result ≡ (if are_digits text.now then Some (read_on 0 text.now) else None) }
-{
-    let mut number: u64 = 0;
-    for byte in text {
-        if !byte.is_ascii_digit() {
-            return None;
-        }
-        let digit = (*byte - b'0') as u64;
-        if number > (u64::MAX - digit) / 10 {
-            return None;
-        }
-        number = 10 * number + digit;
-    }
-    Some(number)
-}
+use itoa::Buffer;
 
 // The bytes from the first on that is no space.
+#[tactic(auto, using(crate::proofs::Numbers::trimmed_other, crate::proofs::Numbers::trimmed_space))]
 fn after_spaces(text: &[u8]) -> &[u8]
     ensures { result.now ≡ trimmed text.now }
 {
@@ -37,51 +21,12 @@ fn after_spaces(text: &[u8]) -> &[u8]
 pub fn read_column(text: &[u8]) -> Option<u64>
     ensures { result ≡ column_number text.now }
 {
-    let numeral = after_spaces(text);
-    match numeral {
-        [] => None,
-        [b'0', _, ..] => None,
-        _ => read_digits(numeral),
+    let numeral = str::from_utf8(after_spaces(text)).ok()?;
+    match numeral.as_bytes() {
+        // a zero in front of other digits, and a sign: `parse` takes both
+        [b'0', _, ..] | [b'+', ..] => None,
+        _ => numeral.parse().ok(),
     }
-}
-
-// How many digits a number has.
-fn digit_count(number: u64) -> usize
-    ensures { result ≡ length (decimal number) }
-{
-    let mut count = 1;
-    let mut rest = number;
-    while rest >= 10 {
-        rest /= 10;
-        count += 1;
-    }
-    count
-}
-
-// Writes a number's digits at the right of a slice that has room for them, and says where they start.
-fn write_digits(out: &mut [u8], number: u64) -> usize
-    requires { length (decimal number) ≤ length out.old }
-    ensures start { result ≡ length out.old - length (decimal number) }
-    ensures digits { drop result out.new ≡ decimal number }
-    ensures kept { take result out.new ≡ take result out.old }
-{
-    let mut start = out.len() - 1;
-    let mut rest = number;
-    while rest >= 10 {
-        out[start] = b'0' + (rest % 10) as u8;
-        rest /= 10;
-        start -= 1;
-    }
-    out[start] = b'0' + rest as u8;
-    start
-}
-
-// Puts spaces into the first bytes of a slice that has as many.
-fn put_spaces(out: &mut [u8], count: usize)
-    requires { count ≤ length out.old }
-    ensures { out.new ≡ replicate count 32 ++ drop count out.old }
-{
-    out[0..count].fill(b' ');
 }
 
 /// Writes a number at the right of a column, with spaces before it, and says whether it fits.
@@ -91,81 +36,74 @@ pub fn write_column(out: &mut [u8], number: u64) -> bool
     ensures written { out.new
         ≡ (if result then column (length out.old) number else out.old) }
 {
-    if out.len() < digit_count(number) {
+    let mut buffer = Buffer::new();
+    let digits = buffer.format(number).as_bytes();
+    if out.len() < digits.len() {
         return false;
     }
-    let start = write_digits(out, number);
-    put_spaces(out, start);
+    let start = out.len() - digits.len();
+    let (spaces, column) = out.split_at_mut(start);
+    spaces.fill(b' ');
+    column.copy_from_slice(digits);
     true
 }
 
-// Whether nothing is left of a line but its newline.
-fn is_end(rest: &[u8]) -> bool
-    ensures { result ≡ is_end rest.now }
-{
-    matches!(rest, [b'\n'])
-}
-
 /// The numbers in a line of columns of these widths, which ends with a newline and has nothing behind it.
+#[tactic(auto, using(crate::proofs::Lines::one_line))]
 pub fn read_line<const N: usize>(widths: &[usize; N], line: &[u8]) -> Option<[u64; N]>
     ensures numbers { result ≡ line_numbers widths.now line.now }
     ensures one_line { OneLine }
 {
-    let widths: &[usize] = widths;
     let mut numbers = [0; N];
     let mut rest = line;
-    for i in 0..widths.len() {
-        let width = widths[i];
-        if rest.len() < width {
-            return None;
-        }
-        let Some(number) = read_column(&rest[..width]) else {
-            return None;
-        };
-        numbers[i] = number;
-        rest = &rest[width..];
+    // `numbers.iter_mut().zip(widths)` would lend the numbers, and leave the proof nothing of them but their count
+    for (i, width) in widths.iter().enumerate() {
+        let (column, behind) = rest.split_at_checked(*width)?;
+        numbers[i] = read_column(column)?;
+        rest = behind;
     }
-    if is_end(rest) { Some(numbers) } else { None }
+    matches!(rest, [b'\n']).then_some(numbers)
 }
 
 // Whether there is a number for each width, which fits it, and the line is just as long as the room for it.
+#[tactic(auto, using(crate::proofs::Fitting::lengths_differ))]
 fn fits_line(widths: &[usize], numbers: &[u64], room: usize) -> bool
-    ensures said { result ≡ fits_line widths.now numbers.now room }
-    ensures one_line { OneLine }
+    ensures { result ≡ fits_line widths.now numbers.now room }
 {
     if widths.len() != numbers.len() {
         return false;
     }
+    let mut buffer = Buffer::new();
     let mut left = room;
-    for i in 0..widths.len() {
-        let width = widths[i];
-        if left < width {
+    for (width, number) in widths.iter().zip(numbers) {
+        if left < *width || *width < buffer.format(*number).len() {
             return false;
         }
-        if width < digit_count(numbers[i]) {
-            return false;
-        }
-        left -= width;
+        left -= *width;
     }
     left == 1
 }
 
-// Writes a line of columns into a slice that is just as long.
+// Writes a line of columns into a slice that is just as long. It calls itself for the columns behind the first: a loop
+// that moves a `&mut` on to what is behind would leave the proof nothing of `out`.
+#[tactic(auto, using(crate::proofs::Fitting::fits_none))]
 fn put_columns(widths: &[usize], numbers: &[u64], out: &mut [u8])
     requires { fits_line widths.now numbers.now (length out.old) ≡ true }
     ensures { out.new ≡ line_of widths.now numbers.now }
 {
-    let mut at = 0;
-    for i in 0..widths.len() {
-        let end = at + widths[i];
-        write_column(&mut out[at..end], numbers[i]);
-        at = end;
+    match (widths, numbers) {
+        ([width, widths @ ..], [number, numbers @ ..]) => {
+            let (column, rest) = out.split_at_mut(*width);
+            write_column(column, *number);
+            put_columns(widths, numbers, rest);
+        }
+        _ => out.copy_from_slice(b"\n"),
     }
-    out[at] = b'\n';
 }
 
 /// Writes a line of columns of these widths, one for each number, and says whether it could: the numbers fit
 /// their columns, there are as many as columns, and `out` is just as long as the line. Else `out` is left as it was.
+#[tactic(auto, using(crate::proofs::Lines::one_line))]
 pub fn write_line(widths: &[usize], numbers: &[u64], out: &mut [u8]) -> bool
     ensures said { result ≡ fits_line widths.now numbers.now (length out.old) }
     ensures written { out.new

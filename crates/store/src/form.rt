@@ -1,60 +1,60 @@
 //! The text form of words: each word is a line of 21 bytes, the word at the right of 20 bytes and a newline.
-ghost use Rattle.std.specs.Prelude.{◌≡◌};
+ghost use Rattle.std.specs.Prelude.{◌≡◌, ◌++◌, Some, codes, decimal};
 ghost use Rattle.store.specs.Text.{line_word, OneTextForm};
 ghost use Rattle.store.specs.Test.{Found, answer_of};
 
 use crate::columns::read_line;
+use std::error::Error;
+use std::fmt;
 
 /// How many bytes of a line the word stands in.
 pub const COLUMN: usize = 20;
 
 /// How many bytes a line has, with its newline.
-pub const LINE: usize = 21;
+pub const LINE: usize = COLUMN + 1;
 
 // The word of a line, if the bytes are one.
+#[tactic(auto, using(crate::proofs::Texts::first_word), unfolding(crate::specs::Text::line_word))]
 pub(crate) fn read_word(line: &[u8]) -> Option<u64>
     ensures { result ≡ line_word line.now }
 {
-    match read_line(&[COLUMN], line) {
-        Some(words) => Some(words[0]),
-        None => None,
-    }
+    let [word] = read_line(&[COLUMN], line)?;
+    Some(word)
 }
 
-/// What the test of a text finds.
+/// Why a text is not in form: the first line, counted from 1, that is not that of a word. A last line that is cut off
+/// is such a line.
 #[derive(Clone, Copy, PartialEq, Eq, Debug)]
-pub enum TextTest {
-    /// Each line is that of a word, and there are so many.
-    Words(u64),
-    /// The first line, counted from 1, that is not that of a word. A last line that is cut off is such a line.
-    Fault(u64),
-}
+pub struct BadLine(pub u64);
 
-impl TextTest {
-    /// The number of a fault, which is 12, and its line. A text in form has none.
-    pub fn answer(self) -> Option<(u64, u64)>
+impl BadLine {
+    /// The number of this error, which is 12, and its line.
+    pub fn answer(self) -> (u64, u64)
         ensures { result ≡ answer_of self }
     {
-        match self {
-            TextTest::Words(_) => None,
-            TextTest::Fault(line) => Some((12, line)),
-        }
+        (12, self.0)
     }
 }
 
-/// Tests whether a text is in form. An empty text is, with no words.
-pub fn test_text(bytes: &[u8]) -> TextTest
+/// `12 3` where line 3 is the first that is not in form.
+impl fmt::Display for BadLine {
+    ghost output = { λ bad. Some (codes "12 " ++ decimal bad.0) };
+
+    fn fmt<W: fmt::Write>(&self, f: &mut fmt::Formatter<W>) -> fmt::Result {
+        write!(f, "12 {}", self.0)
+    }
+}
+
+impl Error for BadLine {}
+
+/// Tests whether a text is in form, and says how many words it has. An empty text is in form, with no words.
+#[tactic(auto, using(crate::proofs::Texts::one_text_form))]
+pub fn test_text(bytes: &[u8]) -> Result<u64, BadLine>
     ensures found { Found bytes.now result }
     ensures one_form { OneTextForm }
 {
-    let mut words = 0;
-    while LINE * words < bytes.len() {
-        let start = LINE * words;
-        let length = LINE.min(bytes.len() - start);
-        if read_word(&bytes[start..start + length]).is_none() {
-            return TextTest::Fault(words as u64 + 1);
-        }
-        words += 1;
+    for (i, line) in bytes.chunks(LINE).enumerate() {
+        read_word(line).ok_or(BadLine(i as u64 + 1))?;
     }
-    TextTest::Words(words as u64)
+    Ok((bytes.len() / LINE) as u64)
 }

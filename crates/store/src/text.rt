@@ -6,7 +6,7 @@ ghost use Rattle.store.specs.Text.{word_line, InForm, LinesTo, words_to, words_i
 
 use crate::Store;
 use crate::columns::write_line;
-use crate::form::{COLUMN, LINE, TextTest, read_word, test_text};
+use crate::form::{COLUMN, LINE, read_word, test_text};
 
 // How many words a text in form holds, and 0 for any other text.
 fn count_words(bytes: &[u8]) -> usize
@@ -19,8 +19,8 @@ fn count_words(bytes: &[u8]) -> usize
     ensures one_form { OneTextForm }
 {
     match test_text(bytes) {
-        TextTest::Words(words) => words as usize,
-        TextTest::Fault(_) => 0,
+        Ok(words) => words as usize,
+        Err(_) => 0,
     }
 }
 

@@ -12,6 +12,8 @@ fn main(rt: HostRuntime) -> io::Result<()> {
     rt.stdin()
         .take(MOST_BYTES as u64 + 1)
         .read_to_end(&mut input)?;
-    let finding = check_text(input.as_slice());
-    println!(rt; "{finding}")
+    match check_text(input.as_slice()) {
+        Ok(words) => println!(rt; "{words}"),
+        Err(error) => println!(rt; "{error}"),
+    }
 }

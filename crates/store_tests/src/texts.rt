@@ -1,50 +1,53 @@
 //! Texts in form and out of it.
 use std::test::Fail;
-use store::check::{Finding, check_text};
-use store::form::{TextTest, test_text};
+use store::check::{TextError, check_text};
+use store::form::{BadLine, test_text};
 
 #[test]
 fn texts_in_form(rt: HostRuntime) {
-    assert_eq!(rt; test_text(b""), TextTest::Words(0));
-    assert_eq!(rt; test_text(b"                   0\n"), TextTest::Words(1));
+    assert_eq!(rt; test_text(b""), Ok(0));
+    assert_eq!(rt; test_text(b"                   0\n"), Ok(1));
     assert_eq!(rt;
         test_text(b"                   9\n18446744073709551615\n"),
-        TextTest::Words(2)
+        Ok(2)
     );
-    assert_eq!(rt; test_text(b"").answer(), None);
+    assert_eq!(rt; test_text(b"").err().map(BadLine::answer), None);
 }
 
 #[test]
 fn the_first_fault(rt: HostRuntime) {
-    assert_eq!(rt; test_text(b"18446744073709551616\n"), TextTest::Fault(1));
-    assert_eq!(rt; test_text(b"                  01\n"), TextTest::Fault(1));
-    assert_eq!(rt; test_text(b"                  \t1\n"), TextTest::Fault(1));
-    assert_eq!(rt; test_text(b"                   1\r"), TextTest::Fault(1));
+    assert_eq!(rt; test_text(b"18446744073709551616\n"), Err(BadLine(1)));
+    assert_eq!(rt; test_text(b"                  01\n"), Err(BadLine(1)));
+    assert_eq!(rt; test_text(b"                  \t1\n"), Err(BadLine(1)));
+    assert_eq!(rt; test_text(b"                   1\r"), Err(BadLine(1)));
     assert_eq!(rt;
         test_text(b"                   1"),
-        TextTest::Fault(1),
+        Err(BadLine(1)),
         "no newline at the end"
     );
     assert_eq!(rt;
         test_text(b"                   1\n                    \n"),
-        TextTest::Fault(2)
+        Err(BadLine(2))
     );
     assert_eq!(rt;
         test_text(b"                   1\n    "),
-        TextTest::Fault(2),
+        Err(BadLine(2)),
         "a last line that is cut off"
     );
-    assert_eq!(rt; test_text(b"\n").answer(), Some((12, 1)));
+    assert_eq!(rt; test_text(b"\n").err().map(BadLine::answer), Some((12, 1)));
 }
 
 #[test]
 fn what_a_program_says(rt: HostRuntime) -> Result<(), Fail> {
-    assert_eq!(rt; check_text(b"x"), Finding::Tested(TextTest::Fault(1)));
-    let fault = check_text(b"x").to_string(rt.alloc())?;
+    assert_eq!(rt; check_text(b"x"), Err(TextError::BadLine(BadLine(1))));
+    let Err(error) = check_text(b"x") else {
+        return Err(Fail::new("the byte is no text in form"));
+    };
+    let fault = error.to_string(rt.alloc())?;
     assert_eq!(rt; fault.as_str(), "12 1");
-    let empty = check_text(b"").to_string(rt.alloc())?;
+    let empty = check_text(b"")?.to_string(rt.alloc())?;
     assert_eq!(rt; empty.as_str(), "words 0");
-    let long = Finding::TooLong.to_string(rt.alloc())?;
+    let long = TextError::TooLong.to_string(rt.alloc())?;
     assert_eq!(rt; long.as_str(), "the input has more than 262144 lines");
     Ok(())
 }

@@ -1,23 +1,17 @@
-use Rattle.std.proofs.Common.{sym, ◌∙◌, arith}
-use Rattle.std.proofs.lemmas.Bool.Decides.{nat_tests}
+use Rattle.std.proofs.Common.{◌≡◌, rules, tests, ◌∙◌}
+use Rattle.std.specs.Ordering.{is_eq}
+use Rattle.std.proofs.lemmas.Iterator.{YieldsList-from_slice}
+use Rattle.std.proofs.lemmas.Iterator.Search.{find_from_yields_List}
+use Rattle.page.specs.declared.entries.Entry.{Entry}
 use Rattle.index.specs.Indexes.{rule_of}
-use Rattle.index.proofs.Searches.{find_more, find_none}
+use Rattle.index.proofs.Searches.{value_of_first, first_same}
 use Rattle.index.proofs.turns.find.Goals as goal
-
-pub returns-in-Same : goal.returns-in-Same
-returns-in-Same g c =
-    let more = find_more (rule_of g.O.Order.keyed g.O.Order.compared)
-    c.args.entries.now c.loop-held.held-index (omega arith) c.args.key in
-    grind (arith, nat_tests)
-
-pub loop-held-preserved : goal.loop-held-preserved
-loop-held-preserved g c =
-    let more = find_more (rule_of g.O.Order.keyed g.O.Order.compared)
-    c.args.entries.now c.loop-held.held-index (omega arith) c.args.key in
-    grind (arith, nat_tests)
 
 pub returns : goal.returns
 returns g c =
-    let none = find_none (rule_of g.O.Order.keyed g.O.Order.compared)
-    c.args.entries.now c.loop-held.held-index (omega arith) c.args.key in
-    sym (c.loop-held.invariant ∙ none)
+    let o = rule_of g.O.Order.keyed g.O.Order.compared in
+    let es = c.args.entries.now in
+    let first = find_from_yields_List (λ (e : Entry). is_eq (o.compared e.key c.args.key)) _ _ c.find.result
+    c.find.ensures.ran (YieldsList-from_slice es cc) (λ x b q k. search (rules, tests)) in
+    let found : c.map.result ≡ value_of_first o c.args.key es = search (rules, tests) in
+    found ∙ first_same o c.args.key es

@@ -1,5 +1,5 @@
 -- Each turn reads the next word of the page.
-use Rattle.std.proofs.Common.{◌+◌, refl}
+use Rattle.std.proofs.Common.{refl}
 use Rattle.store.specs.Overlay.{run}
 use Rattle.store.proofs.Looks.{some_word}
 use Rattle.page.proofs.PageRuns.{word_loaded, page_loaded}
@@ -11,17 +11,10 @@ loop-i-init g c = (refl, refl)
 
 pub loop-i-preserved : goal.loop-i-preserved
 loop-i-preserved g c =
-    let w = g.S.Store.words c.args.store.now in
-    let at = c.in-Some.place in
-    let i = c.loop-i.i in
-    let x = c.in_ok-loaded.field-0 in
-    word_loaded w c.loop-i.loaded c.args.page at i x c.in-Some.ensures c.loop-i-test.true
-    c.loop-i.invariant (some_word w (at + i) x c.in_ok-loaded.ensures).1
+    word_loaded _ _ _ _ _ _ c.in_ok-place.ensures c.loop-i-test.true c.loop-i.invariant
+    (some_word _ _ _ c.in_ok-word.ensures).1
 
 pub returns : goal.returns
 returns g c =
-    let place = c.in-Some.ensures in (
-      place.0,
-      page_loaded (g.S.Store.words c.args.store.now) c.loop-i.loaded c.args.page c.in-Some.place
-          c.loop-i.i place c.loop-i-test.false c.loop-i.auto.i-end c.loop-i.invariant,
-    )
+    let place = c.in_ok-place.ensures in
+    (place.0, page_loaded _ _ _ _ _ place c.loop-i-test.false c.loop-i.auto.i-end c.loop-i.invariant)

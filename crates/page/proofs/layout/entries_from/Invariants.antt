@@ -1,8 +1,7 @@
-use Rattle.std.proofs.Common.{◌≡◌, drop}
-use Rattle.page.specs.Entries.{list_of}
-use Rattle.page.specs.Pages.{entries_from}
+use Rattle.std.proofs.Common.{◌≡◌, take, map}
+use Rattle.page.proofs.EntryWords.{entry_of}
 use Rattle.page.proofs.layout.entries_from.Given as goal
 
 -- as many entries are read as turns were made
-abbrev pub invariant-loop-i : goal.invariant-loop-i
-invariant-loop-i l = list_of l.entries ≡ entries_from l.i (drop 10 l.words)
+abbrev pub invariant-loop-hi : goal.invariant-loop-hi
+invariant-loop-hi l = l.entries ≡ map entry_of (take l.hi-index l.hi-items)

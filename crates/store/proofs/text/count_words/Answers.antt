@@ -3,11 +3,11 @@ use Rattle.store.specs.Text.{words_to}
 use Rattle.store.proofs.Texts.{length_words, words_none, form_from_lines, fault_in_form, one_text_form}
 use Rattle.store.proofs.text.count_words.Goals as goal
 
-pub returns-in-Words : goal.returns-in-Words
-returns-in-Words c =
+pub returns-in-Ok : goal.returns-in-Ok
+returns-in-Ok c =
     let bytes = c.args.bytes.now in
-    let n = c.in-Words.words in
-    let found = c.in-Words.ensures.found in
+    let n = c.in-Ok.words in
+    let found = c.in-Ok.ensures.found in
     let all : n ≡ length bytes / 21 = omega (arith, found.0) in
     record {
       whole = omega (arith, found.0);
@@ -18,10 +18,10 @@ returns-in-Words c =
       one_form = one_text_form;
     }
 
-pub returns-in-Fault : goal.returns-in-Fault
-returns-in-Fault c =
+pub returns-in-Err : goal.returns-in-Err
+returns-in-Err c =
     let bytes = c.args.bytes.now in
-    let found = c.in-Fault.ensures.found in
+    let found = c.in-Err.ensures.found in
     record {
       whole = omega arith;
       formed = λ i h. absurd (omega arith);

@@ -1,14 +1,7 @@
-use Rattle.model.specs.Calls.{merge}
 use Rattle.model.proofs.CallPromises.{called}
-use Rattle.index.specs.Indexes.{state_of, rule_of}
 use Rattle.index.proofs.index.Index.merge.Goals as goal
 
 pub returns : goal.returns
 returns g c =
-    let o = rule_of g.O.Order.keyed g.O.Order.compared in
-    let laws = g.met.O.Order.lawful in
-    let before = state_of g.S.Store.words c.args.self.now in
     let step = c.merge_step.ensures in
-    let pair = c.pair.ensures in
-    called o laws (merge c.args.page) before _ step.state
-    c.merge_step.result _ _ step.answer pair.code pair.figure
+    called _ g.met.O.Order.lawful _ _ _ step.state _ _ _ step.answer c.pair.ensures.code c.pair.ensures.figure

@@ -5,34 +5,34 @@ use Rattle.index.proofs.Children.{none_unreadable}
 use Rattle.index.proofs.Places.{beyond_zero, short_here, short_on, short_none}
 use Rattle.index.proofs.index.Index.short_child.Goals as goal
 
-pub loop-i-init : goal.loop-i-init
-loop-i-init g c =
+pub loop-at-init : goal.loop-at-init
+loop-at-init g c =
     let o = rule_of g.O.Order.keyed g.O.Order.compared in
     let s = state_of g.S.Store.words c.args.self.now in
-    ap (short_child o s c.args.page.now.end) (sym c.as_slice-entries.ensures)
-    ∙ beyond_zero (short_child o s c.args.page.now.end c.as_slice-entries.result.now)
+    ap (short_child o s c.args.page.now.end) (sym c.as_slice-entry-items.ensures.entries)
+    ∙ beyond_zero (short_child o s c.args.page.now.end c.as_slice-entry-items.result.now)
 
 pub returns-in_err-child : goal.returns-in_err-child
 returns-in_err-child g c =
     absurd (none_unreadable (state_of g.S.Store.words c.args.self.now) c.args.page.now.level
-    c.as_slice-entries.ensures c.requires c.loop-i.i c.loop-i-test.true c.in_err-child.ensures)
+    c.as_slice-entry-items.ensures.entries c.requires c.loop-at.at c.loop-at-test.true c.in_err-child.ensures)
 
 pub returns-then-ends_short : goal.returns-then-ends_short
 returns-then-ends_short g c =
-    sym (c.loop-i.invariant
+    sym (c.loop-at.invariant
     ∙ short_here (rule_of g.O.Order.keyed g.O.Order.compared) (state_of g.S.Store.words c.args.self.now)
-    c.args.page.now.end c.as_slice-entries.ensures c.loop-i.i c.loop-i-test.true
+    c.args.page.now.end c.as_slice-entry-items.ensures.entries c.loop-at.at c.loop-at-test.true
     c.in_ok-child.ensures.1 c.key_from.ensures (sym c.if-ends_short.ensures))
 
-pub loop-i-preserved : goal.loop-i-preserved
-loop-i-preserved g c =
-    c.loop-i.invariant
+pub loop-at-preserved : goal.loop-at-preserved
+loop-at-preserved g c =
+    c.loop-at.invariant
     ∙ short_on (rule_of g.O.Order.keyed g.O.Order.compared) (state_of g.S.Store.words c.args.self.now)
-    c.args.page.now.end c.as_slice-entries.ensures c.loop-i.i c.loop-i-test.true
+    c.args.page.now.end c.as_slice-entry-items.ensures.entries c.loop-at.at c.loop-at-test.true
     c.in_ok-child.ensures.1 c.key_from.ensures (sym c.if-ends_short.ensures)
 
 pub returns : goal.returns
 returns g c =
-    sym (c.loop-i.invariant
+    sym (c.loop-at.invariant
     ∙ short_none (rule_of g.O.Order.keyed g.O.Order.compared) (state_of g.S.Store.words c.args.self.now)
-    c.args.page.now.end c.as_slice-entries.result.now c.loop-i.i c.loop-i-test.false)
+    c.args.page.now.end c.as_slice-entry-items.result.now c.loop-at.at c.loop-at-test.false)

@@ -1,6 +1,7 @@
 -- A page is left at the first hit, unmarked; one without a hit is marked.
-use Rattle.std.proofs.Common.{◌≡◌, true, false, get_or, None, arith, below_more}
+use Rattle.std.proofs.Common.{◌≡◌, sym, true, false, get_or, None, arith, below_more}
 use Rattle.std.proofs.lemmas.Bool.Decides.{nat_tests}
+use Rattle.model.specs.States.{view, is_gone}
 use Rattle.index.specs.Jobs.{is_on}
 use Rattle.index.specs.Indexes.{state_of}
 use Rattle.index.proofs.Marks.{gone_to_more, none_points, any_hit, none_stands}
@@ -11,11 +12,12 @@ use Rattle.index.proofs.index.Index.unreached.Goals as goal
 pub pages-init : goal.pages-init
 pages-init g c = marking_none (state_of g.S.Store.words c.args.self.now)
 
-pub pages-preserved-in_default : goal.pages-preserved-in_default
-pages-preserved-in_default g c =
+pub pages-preserved-then-not-is_gone : goal.pages-preserved-then-not-is_gone
+pages-preserved-then-not-is_gone g c =
     let s = state_of g.S.Store.words c.args.self.now in
     let p = c.pages.page in
-    marking_kept s c.pages.marked p c.pages.invariant (not_gone s p c.in_default.ensures)
+    let other : is_gone (view s p).state ≡ false = sym c.if-not-is_gone.ensures in
+    marking_kept s c.pages.marked p c.pages.invariant (not_gone s p other)
 
 pub pages-preserved-then-is_on : goal.pages-preserved-then-is_on
 pages-preserved-then-is_on g c =
@@ -52,9 +54,10 @@ pub pages-preserved : goal.pages-preserved
 pages-preserved g c =
     let s = state_of g.S.Store.words c.args.self.now in
     let p = c.pages.page in
+    let gone : is_gone (view s p).state ≡ true = sym c.if-not-is_gone.ensures in
     let full = c.args.self.now.consoles.full in
     let stood = none_stands p s.jobs (λ k lt. c.loop-other.invariant.0 k (omega arith)) in
     let pointed = none_points s p c.loop-other.other (omega arith) c.loop-other.invariant.1 in
     let bounded = c.args.self.now.bounded in
     marking_set s c.pages.marked p (omega arith) c.pages.invariant
-    (unreached_here s p c.in-Some.ensures.0 stood pointed)
+    (unreached_here s p gone stood pointed)

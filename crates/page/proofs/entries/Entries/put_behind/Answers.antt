@@ -1,12 +1,11 @@
 -- What is written from the count on stands right behind the last.
-use Rattle.std.proofs.Common.{rules}
-use Rattle.std.proofs.lemmas.List.{places}
-use Rattle.std.proofs.lemmas.Slice.{overwrites}
-use Rattle.page.proofs.EntryLists.{length_list}
+use Rattle.page.proofs.EntryLists.{opened, closed, viewed, put_behind}
 use Rattle.page.proofs.entries.Entries.put_behind.Goals as goal
 
 pub invariant_of-self : goal.invariant_of-self
-invariant_of-self c = let was = length_list c.args.self.now in search (rules, places)
+invariant_of-self c =
+    closed (put_behind _ _ (opened c.self.view_is c.self.invariant) c.requires c.copy_from_slice.ensures.after)
 
 pub returns : goal.returns
-returns c = let was = length_list c.args.self.now in search (rules, overwrites)
+returns c =
+    viewed (put_behind _ _ (opened c.self.view_is c.self.invariant) c.requires c.copy_from_slice.ensures.after)

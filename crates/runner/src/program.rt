@@ -1,0 +1,35 @@
+//! What a program that runs call lines does: it reads them, has them run, and writes what they are answered.
+ghost use Rattle.std.specs.Prelude.{◌*◌, ◌≤◌, length, OnOk};
+ghost use Rattle.runner.specs.Programs.{Answered};
+
+use crate::runs::{ANSWER_LINE, CALL_LINE};
+use arrayvec::ArrayVec;
+use std::io;
+use std::io::{Read, Write};
+
+/// The most call lines that a program runs.
+pub const MOST_LINES: usize = 800;
+
+const MOST_INPUT: usize = MOST_LINES * CALL_LINE;
+
+const MOST_OUTPUT: usize = MOST_LINES * ANSWER_LINE;
+
+/// Reads up to 800 call lines, has them run, and writes their answer lines. What there is to read beyond them is ignored.
+/// The run is given what was read and room for the answers, and says how many lines it answered.
+pub fn answer_calls<R: Read + Drop, W: Write, F: FnOnce(&[u8], &mut [u8]) -> usize>(
+    reader: R,
+    writer: &mut W,
+    run: F,
+) -> io::Result<()>
+    requires any_lines { F.IsAlwaysCallable run }
+    requires within { (input : _) (output : _) (lines : _) (answered : _) →
+        F.post run input output lines answered → 25 * lines ≤ length output.now }
+    ensures { OnOk result (Answered (F.post run) (R.remaining reader)
+        (W.contents writer.old) (W.contents writer.new)) }
+{
+    let mut input = ArrayVec::<u8, MOST_INPUT>::new();
+    io::copy(&mut reader.take(MOST_INPUT as u64), &mut input)?;
+    let mut output = [0; MOST_OUTPUT];
+    let lines = run(input.as_slice(), &mut output);
+    writer.write_all(&output[..ANSWER_LINE * lines])
+}
