@@ -46,8 +46,8 @@ count "matches" git grep -nE '\bmatch ' "$rev" "${here[@]}"
 count "closures, Fn and dyn" git grep -nE '\bFn(Once|Mut)?\(|\bdyn |\|[a-z_&, ()*]+\| ' "$rev" "${all[@]}"
 
 echo "8  proofs"
-count "files of answers" bash -c "git ls-tree -r --name-only $rev | grep -E '^crates/[a-z_]+/proofs/.*Answers.antt'"
-count "files of invariants" bash -c "git ls-tree -r --name-only $rev | grep -E '^crates/[a-z_]+/proofs/.*Invariants.antt'"
+count "files of answers" bash -c "git ls-tree -r --name-only $rev | grep -E '^crates/[a-z_]+/proofs/.*/Answers.antt'"
+count "files of invariants" bash -c "git ls-tree -r --name-only $rev | grep -E '^crates/[a-z_]+/proofs/.*/Invariants.antt'"
 for c in order store page model index runner store_tests; do
   printf '%6d lines of proofs in %s\n' "$(git ls-tree -r --name-only "$rev" "crates/$c/proofs" | while read -r f; do git show "$rev:$f"; done | wc -l)" "$c"
 done

@@ -9,7 +9,10 @@ ghost use Rattle.index.specs.Indexes.{state_of, is_page};
 
 use crate::index::Index;
 use order::Order;
-use page::{HeadBuf, PageBuf, PageState, read_page, read_root, read_word, write_head, write_page};
+use page::{
+    HeadBuf, PAGE_WORDS, PageBuf, PageState, read_page, read_root, read_word, write_head,
+    write_page,
+};
 use store::Store;
 
 pub(crate) const TOP_LEVEL: u64 = 4095;
@@ -34,7 +37,7 @@ impl<S: Store, O: Order> Index<S, O> {
     pub(crate) fn root(&self) -> u64
         ensures { result ≡ root_of (state_of S.words self.now) }
     {
-        if self.pages > 0 && self.store.length() >= 64 {
+        if self.pages > 0 && self.store.length() >= PAGE_WORDS as u64 {
             read_root(&self.store)
         } else {
             0
@@ -45,7 +48,7 @@ impl<S: Store, O: Order> Index<S, O> {
     pub(crate) fn has(&self, page: u64) -> bool
         ensures { result ≡ is_page (state_of S.words self.now) page }
     {
-        page > 0 && page < self.pages && page < self.store.length() / 64
+        page > 0 && page < self.pages && page < self.store.length() / PAGE_WORDS as u64
     }
 
     // A page that can be worked on.
@@ -65,7 +68,7 @@ impl<S: Store, O: Order> Index<S, O> {
         ensures { result ≡ (view (state_of S.words self.now) page).state }
     {
         if self.has(page) {
-            PageState::from(read_word(&self.store, 64 * page))
+            PageState::from(read_word(&self.store, PAGE_WORDS as u64 * page))
         } else {
             PageState::Damaged
         }
@@ -76,13 +79,13 @@ impl<S: Store, O: Order> Index<S, O> {
         ensures { result ≡ (view (state_of S.words self.now) page).link }
     {
         if self.has(page) {
-            read_word(&self.store, 64 * page + 3)
+            read_word(&self.store, PAGE_WORDS as u64 * page + 3)
         } else {
             0
         }
     }
 
-    // Writes a page that is there.
+    // Writes a page that is there. That it is, each caller shows: no type can hold it, since the store is written to.
     pub(crate) fn save(&mut self, page: u64, buf: &PageBuf)
         requires { is_there (S.words self.old.store) page ≡ true }
         ensures state { state_of S.words self.new

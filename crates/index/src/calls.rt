@@ -1,7 +1,6 @@
 //! The calls of an index. Each answers a code and a figure, and a refusal changes nothing.
 //!
 //! They take and give numbers, since these are the project's interface; behind them an answer is a `Result`.
-//! They answer a pair and no `Result`, since the scope's interface is numbers.
 ghost use Rattle.model.specs.CallPromises.{AttachCalled, Called, EndsAlone, FormatCalled};
 ghost use Rattle.model.specs.Calls.{begin as begin_call, turn as turn_call, withdraw as withdraw_call};
 ghost use Rattle.model.specs.Calls.{post as post_call, merge as merge_call, raise as raise_call, sweep as sweep_call};

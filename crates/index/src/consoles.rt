@@ -9,7 +9,8 @@ use model::Job;
 pub const CONSOLES: usize = 32;
 
 /// The console table: each console has a job or none.
-#[derive(Clone, Copy)]
+// 32 of them in fixed memory, as the project asks.
+#[derive(Clone, Copy, Debug, PartialEq, Eq)]
 pub struct Consoles {
     jobs: [Option<Job>; CONSOLES],
     ghost full: { length jobs ≡ 32 },
@@ -64,6 +65,7 @@ impl Consoles {
         ensures { self.new.jobs
             ≡ slice_set self.old.jobs console (sent_to page (slice_index_or self.old.jobs console None)) }
     {
+        // by an index, as in `assign`
         if console >= CONSOLES as u64 {
             return;
         }

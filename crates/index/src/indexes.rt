@@ -1,16 +1,11 @@
-//! What an index is, and how its pages are reached.
-ghost use Rattle.std.specs.Prelude.{◌≡◌, ◌≤◌, true, nat_lt};
-ghost use Rattle.order.specs.Refusals.{JustWhere};
-ghost use Rattle.page.specs.Buffers.{page_of};
-ghost use Rattle.page.specs.Pages.{is_there};
+//! How an index is made over a store, and taken apart.
+ghost use Rattle.std.specs.Prelude.{◌≡◌, nat_lt};
 ghost use Rattle.model.specs.Starts.{unmade};
-ghost use Rattle.model.specs.States as states;
 ghost use Rattle.index.specs.Indexes.{state_of};
 
 use crate::consoles::Consoles;
 use crate::index::Index;
 use order::Order;
-use page::{HeadBuf, PageBuf};
 use std::marker::PhantomData;
 use store::Store;
 

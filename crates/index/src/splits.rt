@@ -45,7 +45,7 @@ fn split_off(page: &mut PageBuf, fill: u64, new: u64) -> PageBuf
 }
 
 impl<S: Store, O: Order> Index<S, O> {
-    // The first free page and the one behind it, or why there is none.
+    // The first free page and the one behind it, or why there is none. A pair: each caller takes it apart at once.
     pub(crate) fn free_page(&self) -> Result<(u64, u64), Refusal>
         ensures { MatchResult result
             (λ taken. (free_page (state_of S.words self.now) ≡ Ok taken.0)

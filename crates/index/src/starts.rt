@@ -67,7 +67,7 @@ pub(crate) fn free_page_to(next: u64) -> PageBuf
     }
 }
 
-// Lays the free chain through the pages behind the root, in rising order.
+// Lays the free chain through the pages behind the root, in rising order. The loop counts pages, which are no slice.
 fn lay_free_chain<S: Store>(store: &mut S, pages: u64)
     requires { (2 ≤ pages) × (pages ≤ 4096) × (64 * pages ≤ length (S.words store.old)) }
     ensures { S.words store.new
@@ -95,7 +95,7 @@ fn lay_pages<S: Store>(store: &mut S, pages: u64, fill: u64)
 }
 
 impl<S: Store, O: Order> Index<S, O> {
-    // Takes the copies of a head, and leaves every console idle.
+    // Takes the copies of a head, and leaves every console idle. That they are in range its caller tested.
     fn start(&mut self, pages: u64, fill: u64)
         requires few { fill ≤ 18 }
         requires bounded { pages ≤ 4096 }

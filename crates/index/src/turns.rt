@@ -115,7 +115,7 @@ impl<S: Store, O: Order> Index<S, O> {
         done
     }
 
-    // Puts a job's entry into the leaf on which it stands, which has room for it.
+    // Puts a job's entry into the leaf on which it stands, which has room for it: `turn_on` tested that, by the fill.
     fn enter(&mut self, console: u64, job: Job, leaf: PageBuf) -> Done
         requires there { is_there (S.words self.old.store) job.page ≡ true }
         requires room { length (list_of leaf.entries) < 18 }
@@ -146,7 +146,8 @@ impl<S: Store, O: Order> Index<S, O> {
         self.finish(console, Done::Struck(value))
     }
 
-    // What a job does at the page on which it stands, by its kind and by the page's state, level and entries.
+    // What a job does at the page on which it stands, by its kind and by the page's state, level and entries. Console, job
+    // and page are three arguments and no struct: whoever takes them uses each by itself.
     fn turn_on(&mut self, console: u64, job: Job, page: PageBuf) -> Answer
         requires job { job_at (state_of S.words self.old) console ≡ Some job }
         requires read { page_of page ≡ view (state_of S.words self.old) job.page }

@@ -137,7 +137,8 @@ impl<S: Store, O: Order> Index<S, O> {
         None
     }
 
-    // The first place whose child may take the next one's entries.
+    // The first place whose child may take the next one's entries. That every child is right is asked here and below: it is
+    // a fact of the store too, which is written to, so the parent cannot hold it. Each child is read once, so no `windows`.
     fn merge_pair(&self, page: &PageBuf) -> Option<usize>
         requires { wrong_child (state_of S.words self.now) page.now.level (list_of page.now.entries) ≡ None }
         ensures { result ≡ merge_pair (state_of S.words self.now) (list_of page.now.entries) }
@@ -183,7 +184,8 @@ impl<S: Store, O: Order> Index<S, O> {
         }
     }
 
-    // Merges the child at a place with the next one, and then takes that one's entry out of their parent.
+    // Merges the child at a place with the next one, and then takes that one's entry out of their parent. A page's number,
+    // its parts and a place are three arguments: each is used by itself.
     #[tactic(auto, using(crate::proofs::Merging::parent_there))]
     fn merge_at(&mut self, page: u64, parent: &PageBuf, at: usize) -> Done
         requires parent { IsParent (state_of S.words self.old) page (page_of parent.now) }
@@ -222,7 +224,7 @@ impl<S: Store, O: Order> Index<S, O> {
         }
     }
 
-    // The first place whose child ends before what follows.
+    // The first place whose child ends before what follows. A loop, since `?` leaves it where a page cannot be read.
     fn short_child(&self, page: &PageBuf) -> Option<usize>
         requires { wrong_child (state_of S.words self.now) page.now.level (list_of page.now.entries) ≡ None }
         ensures { result ≡ short_child (rule_of O.keyed O.compared) (state_of S.words self.now)

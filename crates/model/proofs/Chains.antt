@@ -6,7 +6,8 @@ use Rattle.order.specs.declared.keys.Key.{Key}
 use Rattle.order.specs.Laws.{Lawful}
 use Rattle.page.specs.declared.pages.PageState.TheVariants.{Live}
 use Rattle.page.specs.Pages.{Page}
-use Rattle.model.specs.Lists.{All, In, Once}
+use Rattle.std.specs.List.{AllByRecursion}
+use Rattle.model.specs.Lists.{In, Once}
 use Rattle.model.specs.Entries.{KeyOrder}
 use Rattle.model.specs.States.{State, view, is_live}
 use Rattle.model.specs.Upkeep.{numbers}
@@ -62,7 +63,7 @@ Begins f (p ∷ ps) = (f p).start ≡ None
 -- each page starts before all that follow it
 abbrev pub Rises : KeyOrder → (ℕ → Page) → List ℕ → Type 0
 Rises o f [] = Unit {0}
-Rises o f (p ∷ ps) = All (λ q. Under o (start_of (f p)) (start_of (f q))) ps × Rises o f ps
+Rises o f (p ∷ ps) = AllByRecursion (λ q. Under o (start_of (f p)) (start_of (f q))) ps × Rises o f ps
 
 -- page p is a live page of level l
 abbrev pub LiveAt : (ℕ → Page) → ℕ → ℕ → Type 0
@@ -73,7 +74,7 @@ pub record LevelChain (o : KeyOrder) (f : ℕ → Page) (l : ℕ) (ps : List ℕ
   -- the first has no start
   pub begins : Begins f ps
   -- they are live pages of the level
-  pub only : All (LiveAt f l) ps
+  pub only : AllByRecursion (LiveAt f l) ps
   -- all of them, each once
   pub all : (p : ℕ) → (f p).state ≡ Live → (f p).level ≡ l → In p ps
   pub once : Once ps
@@ -85,7 +86,7 @@ pub record LevelChain (o : KeyOrder) (f : ℕ → Page) (l : ℕ) (ps : List ℕ
 -- the pages of a level from page p on
 pub record Onward (o : KeyOrder) (f : ℕ → Page) (l p : ℕ) (ps : List ℕ) : Type 0 where
   pub follows : Follows f p ps
-  pub only : All (LiveAt f l) (p ∷ ps)
+  pub only : AllByRecursion (LiveAt f l) (p ∷ ps)
   pub all : (q : ℕ) → (f q).state ≡ Live → (f q).level ≡ l → UpTo o (start_of (f p)) (start_of (f q)) → In q (p ∷ ps)
   pub rises : Rises o f (p ∷ ps)
 
@@ -192,7 +193,7 @@ module _ {o : KeyOrder} (laws : Lawful o.keyed o.compared) {fill root : ℕ} {f 
       ]
 
   -- where a page starts before all of a list, it is not among them
-  rising_once : (l : ℕ) (ps : List ℕ) → All (LiveAt f l) ps → Rises o f ps → Once ps
+  rising_once : (l : ℕ) (ps : List ℕ) → AllByRecursion (LiveAt f l) ps → Rises o f ps → Once ps
   rising_once l [] only rises = tt
   rising_once l (p ∷ ps) only rises = (all_from (λ (q : ℕ). q ≢ p) ps other, rising_once l ps only.1 rises.1)
     where

@@ -5,7 +5,8 @@ use Rattle.order.specs.Laws.{Lawful}
 use Rattle.order.proofs.Shelf.{same_right}
 use Rattle.page.specs.declared.entries.Entry.{Entry}
 use Rattle.model.specs.declared.jobs.Task.{Task}
-use Rattle.model.specs.Lists.{All, In}
+use Rattle.std.specs.List.{AllByRecursion}
+use Rattle.model.specs.Lists.{In}
 use Rattle.model.specs.Entries.{KeyOrder, find, insert, remove}
 use Rattle.model.proofs.Bounds.{IsKey, at, under_trans, not_both}
 use Rattle.model.proofs.Invariant.{Sorted}
@@ -99,14 +100,14 @@ module _ {o : KeyOrder} (laws : Lawful o.keyed o.compared) where
   length_insert e (f ∷ fs) = let ih = length_insert e fs in grind arith
 
   -- what holds of the entry and of all others
-  pub all_insert : (P : Entry → Type 0) (e : Entry) (es : List Entry) → P e → All P es → All P (insert o e es)
+  pub all_insert : (P : Entry → Type 0) (e : Entry) (es : List Entry) → P e → AllByRecursion P es → AllByRecursion P (insert o e es)
   all_insert P e [] p ps = (p, ps)
   all_insert P e (f ∷ fs) p ps = let ih = all_insert P e fs p ps.1 in grind arith
 
   -- what is before a key is before all that the key is before
-  pub before_all : (a b : Key) (es : List Entry) → IsKey o a → IsKey o b → All (λ e. IsKey o e.key) es
-      → o.compared a b ≡ Less → All (λ e. o.compared b e.key ≡ Less) es
-      → All (λ e. o.compared a e.key ≡ Less) es
+  pub before_all : (a b : Key) (es : List Entry) → IsKey o a → IsKey o b → AllByRecursion (λ e. IsKey o e.key) es
+      → o.compared a b ≡ Less → AllByRecursion (λ e. o.compared b e.key ≡ Less) es
+      → AllByRecursion (λ e. o.compared a e.key ≡ Less) es
   before_all a b [] ka kb ks ab bs = tt
   before_all a b (e ∷ es) ka kb ks ab bs =
       let first = under_trans laws (at a) (at b) (at e.key) ka kb ks.0 ab bs.0 in
@@ -147,7 +148,7 @@ module _ {o : KeyOrder} (laws : Lawful o.keyed o.compared) where
   length_remove k (f ∷ fs) = let ih = length_remove k fs in grind arith
 
   -- what held of all holds of those that stay
-  pub all_remove : (P : Entry → Type 0) (k : Key) (es : List Entry) → All P es → All P (remove o k es)
+  pub all_remove : (P : Entry → Type 0) (k : Key) (es : List Entry) → AllByRecursion P es → AllByRecursion P (remove o k es)
   all_remove P k [] ps = tt
   all_remove P k (f ∷ fs) ps = let ih = all_remove P k fs ps.1 in grind arith
 

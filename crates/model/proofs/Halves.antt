@@ -5,7 +5,7 @@ use Rattle.order.specs.Laws.{Lawful}
 use Rattle.page.specs.declared.entries.Entry.{Entry}
 use Rattle.page.specs.declared.pages.PageState.TheVariants.{Live}
 use Rattle.page.specs.Pages.{Page}
-use Rattle.model.specs.Lists.{All}
+use Rattle.std.specs.List.{AllByRecursion}
 use Rattle.model.specs.Entries.{KeyOrder}
 use Rattle.model.specs.Splits.{first_key}
 use Rattle.model.specs.Soundness.{Child}
@@ -37,13 +37,13 @@ record Halves (o : KeyOrder) (f : ℕ → Page) (x : Page) (n l : ℕ) (ls rs : 
   upper : BodyOk o f (upper_of x rs) l
 
 all_both : {A : Type 0} {P Q R : A → Type 0} → ((x : A) → P x → Q x → R x)
-    → (xs : List A) → All P xs → All Q xs → All R xs
+    → (xs : List A) → AllByRecursion P xs → AllByRecursion Q xs → AllByRecursion R xs
 all_both g [] p q = tt
 all_both g (x ∷ xs) p q = (g x p.0 q.0, all_both g xs p.1 q.1)
 
 -- the entries in front of one are before it
 all_before : (o : KeyOrder) (ls : List Entry) (e : Entry) (rs : List Entry) → Sorted o (ls ++ (e ∷ rs))
-    → All (λ d. Before' o d.key e.key) ls
+    → AllByRecursion (λ d. Before' o d.key e.key) ls
 all_before o [] e rs s = tt
 all_before o (d ∷ ls) e rs s =
     ((all_right (λ c. Before' o d.key c.key) ls (e ∷ rs) s.1).0, all_before o ls e rs s.2)
@@ -76,7 +76,7 @@ halves_inner o f x n l a ls e rs b =
 module _ {o : KeyOrder} (laws : Lawful o.keyed o.compared) where
   halves_leaf : (f : ℕ → Page) (x : Page) (n : ℕ) → KeyBound o (start_of x)
       → (a : Entry) (ls : List Entry) (e : Entry) (rs : List Entry) → Sorted o ((a ∷ ls) ++ (e ∷ rs))
-      → All (λ d. Covers o x d.key) ((a ∷ ls) ++ (e ∷ rs)) → Halves o f x n 0 (a ∷ ls) (e ∷ rs)
+      → AllByRecursion (λ d. Covers o x d.key) ((a ∷ ls) ++ (e ∷ rs)) → Halves o f x n 0 (a ∷ ls) (e ∷ rs)
   halves_leaf f x n start_key a ls e rs s c =
       let ahead = all_before o (a ∷ ls) e rs s in
       let behind = sorted_right o (a ∷ ls) (e ∷ rs) s in
@@ -106,7 +106,7 @@ module _ {o : KeyOrder} (laws : Lawful o.keyed o.compared) where
   halves f x n l start_key b (a ∷ ls) [] eq p q = absurd (omega arith)
   halves f x n zero start_key b (a ∷ ls) (e ∷ rs) eq p q =
       halves_leaf f x n start_key a ls e rs (subst (Sorted o) eq b.sorted)
-      (subst (All (λ d. Covers o x d.key)) eq b.inside)
+      (subst (AllByRecursion (λ d. Covers o x d.key)) eq b.inside)
   halves f x n (suc l) start_key b (a ∷ ls) (e ∷ rs) eq p q =
       halves_inner o f x n l a ls e rs (subst (InnerEntries o f l x) eq b)
 

@@ -6,7 +6,8 @@ use Rattle.page.specs.declared.pages.PageState.TheVariants.{Live, Gone}
 use Rattle.page.specs.Pages.{Page, page_run, words_of, head_words, bound_key}
 use Rattle.model.specs.declared.jobs.Job.{Job}
 use Rattle.model.specs.declared.jobs.Task.{Task}
-use Rattle.model.specs.Lists.{All, In}
+use Rattle.std.specs.List.{AllByRecursion}
+use Rattle.model.specs.Lists.{In}
 use Rattle.model.specs.Entries.{KeyOrder}
 use Rattle.model.specs.States.{State, view, root, free_head, has_form}
 use Rattle.model.specs.Reference.{Reference}
@@ -21,7 +22,7 @@ module _ (o : KeyOrder) where
   -- the keys are keys and rise strictly: each is before all that follow
   abbrev pub Sorted : List Entry → Type 0
   Sorted [] = Unit {0}
-  Sorted (e ∷ es) = IsKey o e.key × All (λ d. o.compared e.key d.key ≡ Less) es × Sorted es
+  Sorted (e ∷ es) = IsKey o e.key × AllByRecursion (λ d. o.compared e.key d.key ≡ Less) es × Sorted es
 
   -- a page's range covers a key
   pub record Covers (x : Page) (k : Key) : Type 0 where
@@ -31,7 +32,7 @@ module _ (o : KeyOrder) where
   -- a leaf: its keys rise, within its range
   pub record LeafOk (x : Page) : Type 0 where
     pub sorted : Sorted x.entries
-    pub inside : All (λ e. Covers x e.key) x.entries
+    pub inside : AllByRecursion (λ e. Covers x e.key) x.entries
 
   -- an entry of an inner page but the first: its key is the start of its child, within the page
   pub record Divides (f : ℕ → Page) (l : ℕ) (x : Page) (e : Entry) : Type 0 where
@@ -43,7 +44,7 @@ module _ (o : KeyOrder) where
   abbrev pub InnerEntries : (ℕ → Page) → ℕ → Page → List Entry → Type 0
   InnerEntries f l x [] = ⊥
   InnerEntries f l x (e ∷ es) =
-      (e.key ≡ bound_key x.start) × Child f l x.start e.value × Sorted es × All (Divides f l x) es
+      (e.key ≡ bound_key x.start) × Child f l x.start e.value × Sorted es × AllByRecursion (Divides f l x) es
 
   -- the entries of a page, by its level
   abbrev pub BodyOk : (ℕ → Page) → Page → ℕ → Type 0

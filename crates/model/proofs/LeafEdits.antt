@@ -7,7 +7,8 @@ use Rattle.page.specs.declared.entries.Entry.{Entry}
 use Rattle.page.specs.declared.pages.PageState.TheVariants.{Live}
 use Rattle.page.specs.Pages.{Page}
 use Rattle.model.specs.declared.jobs.Job.{Job}
-use Rattle.model.specs.Lists.{All, In}
+use Rattle.std.specs.List.{AllByRecursion}
+use Rattle.model.specs.Lists.{In}
 use Rattle.model.specs.Entries.{KeyOrder}
 use Rattle.model.specs.Turns.{with_entries}
 use Rattle.model.specs.Reference.{Reference}
@@ -21,7 +22,7 @@ use Rattle.model.proofs.Edits.{live_edited}
 
 -- a live leaf with other entries, in order within its range, is in order
 pub leaf_edited : {o : KeyOrder} (fill : ℕ) (f : ℕ → Page) (x : Page) (es : List Entry) → LiveOk o fill f x
-    → x.level ≡ 0 → length es ≤ fill → Sorted o es → All (λ e. Covers o x e.key) es
+    → x.level ≡ 0 → length es ≤ fill → Sorted o es → AllByRecursion (λ e. Covers o x e.key) es
     → LiveOk o fill f (with_entries es x)
 leaf_edited {o} fill f x es h leaf few sorted inside =
     let body : LeafOk o (with_entries es x) = record { sorted = sorted; inside = all_map covered es inside } in

@@ -1,39 +1,40 @@
 -- Members of lists, and entries in order.
 use Rattle.std.proofs.Common.{◌≡◌, ℕ, zero, suc, ◌⊎◌, List, [], ◌∷◌, ◌++◌, take, drop, sym, refl, subst, inl, inr, Less}
 use Rattle.page.specs.declared.entries.Entry.{Entry}
-use Rattle.model.specs.Lists.{All, In}
+use Rattle.std.specs.List.{AllByRecursion}
+use Rattle.model.specs.Lists.{In}
 use Rattle.model.specs.Entries.{KeyOrder}
 use Rattle.model.proofs.Bounds.{IsKey}
 use Rattle.model.proofs.Invariant.{Sorted}
 
 -- what holds of all holds of a member
-pub all_in : {A : Type 0} (P : A → Type 0) (xs : List A) (x : A) → All P xs → In x xs → P x
+pub all_in : {A : Type 0} (P : A → Type 0) (xs : List A) (x : A) → AllByRecursion P xs → In x xs → P x
 all_in P [] x all i = absurd i
 all_in P (y ∷ ys) x all (inl e) = subst P (sym e) all.0
 all_in P (y ∷ ys) x all (inr i) = all_in P ys x all.1 i
 
 -- what holds of each member holds of all
-pub all_from : {A : Type 0} (P : A → Type 0) (xs : List A) → ((x : A) → In x xs → P x) → All P xs
+pub all_from : {A : Type 0} (P : A → Type 0) (xs : List A) → ((x : A) → In x xs → P x) → AllByRecursion P xs
 all_from P [] each = tt
 all_from P (y ∷ ys) each = (each y (inl refl), all_from P ys (λ x i. each x (inr i)))
 
 -- what holds of all, weakened
-pub all_map : {A : Type 0} {P Q : A → Type 0} → ((x : A) → P x → Q x) → (xs : List A) → All P xs → All Q xs
+pub all_map : {A : Type 0} {P Q : A → Type 0} → ((x : A) → P x → Q x) → (xs : List A) → AllByRecursion P xs → AllByRecursion Q xs
 all_map g [] all = tt
 all_map g (y ∷ ys) all = (g y all.0, all_map g ys all.1)
 
 -- what holds of both parts
-pub all_append : {A : Type 0} (P : A → Type 0) (xs ys : List A) → All P xs → All P ys → All P (xs ++ ys)
+pub all_append : {A : Type 0} (P : A → Type 0) (xs ys : List A) → AllByRecursion P xs → AllByRecursion P ys → AllByRecursion P (xs ++ ys)
 all_append P [] ys l r = r
 all_append P (x ∷ xs) ys l r = (l.0, all_append P xs ys l.1 r)
 
 -- the first part
-pub all_left : {A : Type 0} (P : A → Type 0) (xs ys : List A) → All P (xs ++ ys) → All P xs
+pub all_left : {A : Type 0} (P : A → Type 0) (xs ys : List A) → AllByRecursion P (xs ++ ys) → AllByRecursion P xs
 all_left P [] ys all = tt
 all_left P (x ∷ xs) ys all = (all.0, all_left P xs ys all.1)
 
 -- the last part
-pub all_right : {A : Type 0} (P : A → Type 0) (xs ys : List A) → All P (xs ++ ys) → All P ys
+pub all_right : {A : Type 0} (P : A → Type 0) (xs ys : List A) → AllByRecursion P (xs ++ ys) → AllByRecursion P ys
 all_right P [] ys all = all
 all_right P (x ∷ xs) ys all = all_right P xs ys all.1
 
@@ -80,7 +81,7 @@ module _ (o : KeyOrder) where
   Precedes d e = o.compared d.key e.key ≡ Less
 
   -- the keys of a sorted list are keys
-  pub sorted_keys : (es : List Entry) → Sorted o es → All (λ e. IsKey o e.key) es
+  pub sorted_keys : (es : List Entry) → Sorted o es → AllByRecursion (λ e. IsKey o e.key) es
   sorted_keys [] s = tt
   sorted_keys (e ∷ es) s = (s.0, sorted_keys es s.2)
 
@@ -90,7 +91,7 @@ module _ (o : KeyOrder) where
 
   -- two sorted lists, each entry of the first before each of the second
   pub sorted_append : (xs ys : List Entry) → Sorted o xs → Sorted o ys
-      → All (λ x. All (λ y. o.compared x.key y.key ≡ Less) ys) xs → Sorted o (xs ++ ys)
+      → AllByRecursion (λ x. AllByRecursion (λ y. o.compared x.key y.key ≡ Less) ys) xs → Sorted o (xs ++ ys)
   sorted_append [] ys sx sy before = sy
   sorted_append (x ∷ xs) ys sx sy before = (
     sx.0,

@@ -5,7 +5,8 @@ use Rattle.order.specs.declared.keys.Key.{Key}
 use Rattle.order.specs.Laws.{Lawful}
 use Rattle.page.specs.declared.entries.Entry.{Entry}
 use Rattle.page.specs.Pages.{Page, bound_key}
-use Rattle.model.specs.Lists.{All, In}
+use Rattle.std.specs.List.{AllByRecursion}
+use Rattle.model.specs.Lists.{In}
 use Rattle.model.specs.Entries.{KeyOrder}
 use Rattle.model.specs.Turns.{with_entries}
 use Rattle.model.specs.Upkeep.{is_small, joined}
@@ -22,7 +23,7 @@ KeepsBut b f g = (q : ℕ) → q ≢ b → KeptLive (f q) (g q)
 
 -- no entry refers to b
 abbrev pub Avoids : ℕ → List Entry → Type 0
-Avoids b es = All (λ e. e.value ≢ b) es
+Avoids b es = AllByRecursion (λ e. e.value ≢ b) es
 
 module _ (o : KeyOrder) (f g : ℕ → Page) (b : ℕ) (keep : KeepsBut b f g) where
   child_but : (l : ℕ) (start : Option Key) (c : ℕ) → c ≢ b → Child f l start c → Child g l start c
@@ -119,7 +120,7 @@ module _ {o : KeyOrder} (laws : Lawful o.keyed o.compared) where
         → ((e : Entry) → In e ys → UpTo o (start_of y) (at e.key)) → Sorted o (xs ++ ys)
     joined_sorted xs ys sx sy before after =
         sorted_append o xs ys sx sy
-        (all_from (λ d. All (λ e. o.compared d.key e.key ≡ Less) ys) xs
+        (all_from (λ d. AllByRecursion (λ e. o.compared d.key e.key ≡ Less) ys) xs
         (λ d i. all_from (λ e. o.compared d.key e.key ≡ Less) ys
         (λ e j. left_right d.key e.key (sorted_key o xs d sx i) (sorted_key o ys e sy j)
         (before d i) (after e j))))
@@ -149,16 +150,16 @@ module _ {o : KeyOrder} (laws : Lawful o.keyed o.compared) where
 
     module _ (f g : ℕ → Page) (b l : ℕ) (keep : KeepsBut b f g) where
       -- what divides the joined page: the later entries of the left one, those of the right one, and its first
-      left_divide : (cs : List Entry) → Avoids b cs → Sorted o cs → All (Divides o f l x) cs
-          → All (Divides o g l (joined x y)) cs
+      left_divide : (cs : List Entry) → Avoids b cs → Sorted o cs → AllByRecursion (Divides o f l x) cs
+          → AllByRecursion (Divides o g l (joined x y)) cs
       left_divide cs ne sorted all =
           all_from (Divides o g l (joined x y)) cs
           (λ d i. let hd = all_in (Divides o f l x) cs d all i in
           divides_but o f g b keep l x (joined x y) d (all_in (λ d. d.value ≢ b) cs d ne i) hd.after
           (left_before d.key (sorted_key o cs d sorted i) hd.before) hd)
 
-      right_divide : (es : List Entry) → Avoids b es → Sorted o es → All (Divides o f l y) es
-          → All (Divides o g l (joined x y)) es
+      right_divide : (es : List Entry) → Avoids b es → Sorted o es → AllByRecursion (Divides o f l y) es
+          → AllByRecursion (Divides o g l (joined x y)) es
       right_divide es ne sorted all =
           all_from (Divides o g l (joined x y)) es
           (λ d i. let hd = all_in (Divides o f l y) es d all i in

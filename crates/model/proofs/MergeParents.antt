@@ -6,7 +6,7 @@ use Rattle.order.specs.Laws.{Lawful}
 use Rattle.page.specs.declared.entries.Entry.{Entry}
 use Rattle.page.specs.declared.pages.PageState.TheVariants.{Live}
 use Rattle.page.specs.Pages.{Page}
-use Rattle.model.specs.Lists.{All}
+use Rattle.std.specs.List.{AllByRecursion}
 use Rattle.model.specs.Entries.{KeyOrder}
 use Rattle.model.specs.States.{has_form}
 use Rattle.model.specs.Soundness.{Child}
@@ -31,8 +31,8 @@ pub record Couple (o : KeyOrder) (f : ℕ → Page) (p l a b : ℕ) (k : Key) (e
   pub a≢p : a ≢ p
   pub b≢p : b ≢ p
   pub entries : InnerEntries o f l (f p) es
-  pub others : All (λ e. e.value ≢ b) es
-  pub parents : (q m : ℕ) → q ≢ p → (f q).state ≡ Live → (f q).level ≡ suc m → All (λ e. e.value ≢ b) (f q).entries
+  pub others : AllByRecursion (λ e. e.value ≢ b) es
+  pub parents : (q m : ℕ) → q ≢ p → (f q).state ≡ Live → (f q).level ≡ suc m → AllByRecursion (λ e. e.value ≢ b) (f q).entries
   pub lefts : (q : ℕ) (j : Key) → q ≢ a → (f q).state ≡ Live → (f q).end ≡ Some j → (f q).link ≢ b
 
 -- the parent's entries es, which are those without e, the entry behind d
@@ -40,7 +40,7 @@ record Cut (o : KeyOrder) (f : ℕ → Page) (l : ℕ) (x : Page) (d e : Entry) 
   entries : InnerEntries o f l x es
   left : Child f l (f d.value).start d.value
   right : Divides o f l x e
-  others : All (λ c. c.value ≢ e.value) es
+  others : AllByRecursion (λ c. c.value ≢ e.value) es
 
 -- a child c one level below x starts within x
 record StartsWithin (o : KeyOrder) (f : ℕ → Page) (l : ℕ) (x : Page) (c : ℕ) : Type 0 where
@@ -69,7 +69,7 @@ module _ {o : KeyOrder} (laws : Lawful o.keyed o.compared) where
 
   -- without e the entries still rise, and none of them has its key
   sorted_cut : (ls : List Entry) (d e : Entry) (rs : List Entry) → Sorted o (ls ++ (d ∷ e ∷ rs))
-      → Sorted o (ls ++ (d ∷ rs)) × All (λ c. c.key ≢ e.key) (ls ++ (d ∷ rs))
+      → Sorted o (ls ++ (d ∷ rs)) × AllByRecursion (λ c. c.key ≢ e.key) (ls ++ (d ∷ rs))
   sorted_cut [] d e rs s = (
     (s.0, s.1.1, s.2.2),
     (
@@ -109,7 +109,7 @@ module _ {o : KeyOrder} (laws : Lawful o.keyed o.compared) where
 
     -- each child starts within its parent
     all_within : (es : List Entry) → KeyBound o (start_of x) → Under o (start_of x) (end_of x) → InnerEntries o f l x es
-        → All (λ e. StartsWithin o f l x e.value) es
+        → AllByRecursion (λ e. StartsWithin o f l x e.value) es
     all_within [] ks rises h = absurd h
     all_within (e ∷ es) ks rises h = (first_within e.value ks rises h.1, all_map later_within es h.3)
 
@@ -126,8 +126,8 @@ module _ {o : KeyOrder} (laws : Lawful o.keyed o.compared) where
         sym hc.child.starts ∙ ap (λ v. (f v).start) q ∙ he.child.starts in
         ne (cc)
 
-    others_later : (e : Entry) (es : List Entry) → Divides o f l x e → All (Divides o f l x) es
-        → All (λ c. c.key ≢ e.key) es → All (λ c. c.value ≢ e.value) es
+    others_later : (e : Entry) (es : List Entry) → Divides o f l x e → AllByRecursion (Divides o f l x) es
+        → AllByRecursion (λ c. c.key ≢ e.key) es → AllByRecursion (λ c. c.value ≢ e.value) es
     others_later e es he all ne =
         all_from (λ c. c.value ≢ e.value) es
         (λ c i. later_other c e (all_in (Divides o f l x) es c all i) he (all_in (λ c. c.key ≢ e.key) es c ne i))

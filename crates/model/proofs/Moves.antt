@@ -8,7 +8,7 @@ use Rattle.page.specs.declared.pages.PageState.TheVariants.{Live, Gone}
 use Rattle.page.specs.Pages.{Page}
 use Rattle.model.specs.declared.jobs.Job.{Job}
 use Rattle.model.specs.declared.jobs.Task.{Task}
-use Rattle.model.specs.Lists.{All}
+use Rattle.std.specs.List.{AllByRecursion}
 use Rattle.model.specs.Entries.{KeyOrder, pick}
 use Rattle.model.specs.Turns.{is_past, child_from, child_of}
 use Rattle.model.specs.Reference.{Reference}
@@ -51,7 +51,7 @@ module _ {o : KeyOrder} (laws : Lawful o.keyed o.compared) where
         }
 
     -- the last child whose start is not after the key
-    child_from_lem : (l c : ℕ) (es : List Entry) → Reached o f l k c → All (λ e. Child f l (Some e.key) e.value) es
+    child_from_lem : (l c : ℕ) (es : List Entry) → Reached o f l k c → AllByRecursion (λ e. Child f l (Some e.key) e.value) es
         → Reached o f l k (child_from o k c es)
     child_from_lem l c [] h all = h
     child_from_lem l c (e ∷ es) h all =

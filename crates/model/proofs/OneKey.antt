@@ -4,7 +4,8 @@ use Rattle.order.specs.declared.keys.Key.{Key}
 use Rattle.order.specs.Laws.{Lawful}
 use Rattle.order.proofs.Shelf.{same_left, same_right}
 use Rattle.page.specs.declared.entries.Entry.{Entry}
-use Rattle.model.specs.Lists.{All, In}
+use Rattle.std.specs.List.{AllByRecursion}
+use Rattle.model.specs.Lists.{In}
 use Rattle.model.specs.Entries.{KeyOrder, pick, find, insert, remove}
 use Rattle.model.proofs.Bounds.{IsKey}
 use Rattle.model.proofs.Invariant.{Sorted}
@@ -55,7 +56,7 @@ module _ (o : KeyOrder) where
 
 module _ {o : KeyOrder} (laws : Lawful o.keyed o.compared) where
   -- two same keys have the same entry
-  pub entry_same : (a b : Key) (es : List Entry) → IsKey o a → IsKey o b → All (λ e. IsKey o e.key) es
+  pub entry_same : (a b : Key) (es : List Entry) → IsKey o a → IsKey o b → AllByRecursion (λ e. IsKey o e.key) es
       → o.compared a b ≡ Equal → entry_at o a es ≡ entry_at o b es
   entry_same a b [] ka kb ks same = refl
   entry_same a b (e ∷ es) ka kb ks same =
@@ -87,7 +88,7 @@ module _ {o : KeyOrder} (laws : Lawful o.keyed o.compared) where
           out.1 (same_right laws t k e.key kt kk ke same ∙ ek)
 
   -- another key is taken out
-  pub remove_other : (t k : Key) (es : List Entry) → All (λ e. IsKey o e.key) es → IsKey o t → IsKey o k
+  pub remove_other : (t k : Key) (es : List Entry) → AllByRecursion (λ e. IsKey o e.key) es → IsKey o t → IsKey o k
       → (o.compared t k ≡ Equal → ⊥) → entry_at o k (remove o t es) ≡ entry_at o k es
   remove_other t k [] ks kt kk other = refl
   remove_other t k (e ∷ es) ks kt kk other =

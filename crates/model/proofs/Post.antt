@@ -7,7 +7,7 @@ use Rattle.page.specs.declared.entries.Entry.{Entry}
 use Rattle.page.specs.declared.pages.PageState.TheVariants.{Live}
 use Rattle.page.specs.Pages.{Page, bound_key}
 use Rattle.model.specs.declared.jobs.Job.{Job}
-use Rattle.model.specs.Lists.{All}
+use Rattle.std.specs.List.{AllByRecursion}
 use Rattle.model.specs.Entries.{KeyOrder}
 use Rattle.model.specs.States.{State, view}
 use Rattle.model.specs.Turns.{with_entries}
@@ -83,7 +83,7 @@ length_there (c ∷ ls) e d rs = ap (λ n. suc n) (length_there ls e d rs)
 
 -- what holds of all and of one more between them
 all_between : (P : Entry → Type 0) (ls : List Entry) (e d : Entry) (rs : List Entry)
-    → All P (ls ++ (e ∷ rs)) → P d → All P (ls ++ (e ∷ d ∷ rs))
+    → AllByRecursion P (ls ++ (e ∷ rs)) → P d → AllByRecursion P (ls ++ (e ∷ d ∷ rs))
 all_between P [] e d rs all new = (all.0, (new, all.1))
 all_between P (c ∷ ls) e d rs all new = (all.0, all_between P ls e d rs all.1 new)
 
@@ -100,7 +100,7 @@ record Next (o : KeyOrder) (f : ℕ → Page) (l : ℕ) (start : Option Key) (k 
 module _ {o : KeyOrder} (laws : Lawful o.keyed o.compared) where
   -- one more key between two neighbours keeps the order
   sorted_between : (ls : List Entry) (e d : Entry) (rs : List Entry) → Sorted o (ls ++ (e ∷ rs)) → IsKey o d.key
-      → Before' o e.key d.key → All (λ c. Before' o d.key c.key) rs
+      → Before' o e.key d.key → AllByRecursion (λ c. Before' o d.key c.key) rs
       → Sorted o (ls ++ (e ∷ d ∷ rs))
   sorted_between [] e d rs s key after before = (s.0, (after, s.1), (key, before, s.2))
   sorted_between (c ∷ ls) e d rs s key after before =
@@ -114,8 +114,8 @@ module _ {o : KeyOrder} (laws : Lawful o.keyed o.compared) where
 
   -- an end before what follows is before all that follow, and before the page's end
   short_before : (f : ℕ → Page) (l : ℕ) (x : Page) (k : Key) → IsKey o k → KeyBound o (end_of x) → (rs : List Entry)
-      → Sorted o rs → All (Divides o f l x) rs → ends_short o (Some k) (following x.end rs) ≡ true
-      → All (λ c. Before' o k c.key) rs × Under o (at k) (end_of x)
+      → Sorted o rs → AllByRecursion (Divides o f l x) rs → ends_short o (Some k) (following x.end rs) ≡ true
+      → AllByRecursion (λ c. Before' o k c.key) rs × Under o (at k) (end_of x)
   short_before f l x k key end_key [] s all short = (tt, before_end x.end short)
     where
       before_end : (end : Option Key) → ends_short o (Some k) end ≡ true → Under o (at k) (upper_bound end)
@@ -123,7 +123,7 @@ module _ {o : KeyOrder} (laws : Lawful o.keyed o.compared) where
       before_end (Some t) h = grind arith
   short_before f l x k key end_key (c ∷ rs) s all short =
       let first : Before' o k c.key = grind arith in
-      let others : All (λ d. Before' o k d.key) rs =
+      let others : AllByRecursion (λ d. Before' o k d.key) rs =
       before_all laws k c.key rs key s.0 (sorted_keys o rs s.2) first s.1 in
       ((first, others), under_trans laws (at k) (at c.key) (end_of x) key s.0 end_key first all.0.before)
 

@@ -5,7 +5,8 @@ use Rattle.page.specs.declared.entries.Entry.{Entry}
 use Rattle.page.specs.declared.pages.PageState.TheVariants.{Live}
 use Rattle.page.specs.Pages.{Page}
 use Rattle.model.specs.declared.jobs.Job.{Job}
-use Rattle.model.specs.Lists.{All, In, Once}
+use Rattle.std.specs.List.{AllByRecursion}
+use Rattle.model.specs.Lists.{In, Once}
 use Rattle.model.specs.Entries.{KeyOrder}
 use Rattle.model.specs.States.{State, view}
 use Rattle.model.specs.Reference.{Reference}
@@ -56,12 +57,12 @@ module _ {o : KeyOrder} (laws : Lawful o.keyed o.compared) (s : State) {fill roo
       under_upto laws (at d.key) (start_of (f q)) (at e.key) kd okq.start_key ke until starts
 
   -- the entries of leaves in a row are in order
-  row_sorted : (ps : List ℕ) → All (LiveAt f 0) ps → Once ps → Rises o f ps → Sorted o (entries_in s ps)
+  row_sorted : (ps : List ℕ) → AllByRecursion (LiveAt f 0) ps → Once ps → Rises o f ps → Sorted o (entries_in s ps)
   row_sorted [] only once rises = tt
   row_sorted (p ∷ ps) only once rises =
       let rest = row_sorted ps only.1 once.1 rises.1 in
       sorted_append o (f p).entries (entries_in s ps) (leaf_of tree p only.0.0 only.0.1).sorted rest
-      (all_from (λ (d : Entry). All (Precedes o d) (entries_in s ps)) (f p).entries
+      (all_from (λ (d : Entry). AllByRecursion (Precedes o d) (entries_in s ps)) (f p).entries
       (λ d ind. all_from (Precedes o d) (entries_in s ps) (before d ind)))
     where
       before : (d : Entry) → In d (f p).entries → (e : Entry) → In e (entries_in s ps) → Precedes o d e

@@ -6,7 +6,8 @@ use Rattle.page.specs.declared.pages.PageState.{PageState}
 use Rattle.page.specs.declared.pages.PageState.TheVariants.{Live, Gone}
 use Rattle.page.specs.Pages.{Page}
 use Rattle.model.specs.declared.jobs.Job.{Job}
-use Rattle.model.specs.Lists.{All, In, Once}
+use Rattle.std.specs.List.{AllByRecursion}
+use Rattle.model.specs.Lists.{In, Once}
 use Rattle.model.specs.Entries.{KeyOrder}
 use Rattle.model.specs.States.{State, view, has_form, is_gone}
 use Rattle.model.specs.Upkeep.{any_job_on, numbers, points_to, any_gone_to, is_unreached, unreached_of, free_page_to}
@@ -114,8 +115,8 @@ unreached_kept f js p h q ne u =
           (λ e. absurd (gone_not_free e refl)) (λ m other e. u.unpointed m e);
     }
 
-all_unreached_kept : (f : ℕ → Page) (js : List (Option Job)) (p h : ℕ) (ps : List ℕ) → All (λ q. q ≢ p) ps
-    → All (Unreached f js) ps → All (Unreached (freed f p h) js) ps
+all_unreached_kept : (f : ℕ → Page) (js : List (Option Job)) (p h : ℕ) (ps : List ℕ) → AllByRecursion (λ q. q ≢ p) ps
+    → AllByRecursion (Unreached f js) ps → AllByRecursion (Unreached (freed f p h) js) ps
 all_unreached_kept f js p h [] away all = tt
 all_unreached_kept f js p h (q ∷ qs) away all =
     (unreached_kept f js p h q away.0 all.0, all_unreached_kept f js p h qs away.1 all.1)
@@ -123,7 +124,7 @@ all_unreached_kept f js p h (q ∷ qs) away all =
 -- what freeing one unreached page keeps, of the pages and the head of the chain, freeing several keeps
 module _ (js : List (Option Job)) (P : (ℕ → Page) → ℕ → Type 0)
     (each : (f : ℕ → Page) (p h : ℕ) → Unreached f js p → P f h → P (freed f p h) p) where
-  free_each : (f : ℕ → Page) (h : ℕ) (ps : List ℕ) → Once ps → All (Unreached f js) ps → P f h
+  free_each : (f : ℕ → Page) (h : ℕ) (ps : List ℕ) → Once ps → AllByRecursion (Unreached f js) ps → P f h
       → P (free_all f h ps) (head_after h ps)
   free_each f h [] once all k = k
   free_each f h (p ∷ ps) once all k =
@@ -132,7 +133,7 @@ module _ (js : List (Option Job)) (P : (ℕ → Page) → ℕ → Type 0)
 
 -- after all pages of a list are freed
 module _ (f : ℕ → Page) (js : List (Option Job)) (h : ℕ) (ps : List ℕ)
-    (once : Once ps) (all : All (Unreached f js) ps) where
+    (once : Once ps) (all : AllByRecursion (Unreached f js) ps) where
   -- the free chain
   pub sweep_chain : FreeChain f h → FreeChain (free_all f h ps) (head_after h ps)
   sweep_chain = free_each js FreeChain (λ g p n u. free_chain_lem g p n u.gone) f h ps once all
@@ -186,21 +187,21 @@ is_unreached_lem s p test =
     }
 
 -- what sweep finds: unreached pages, each once
-pub all_unreached_lem : (s : State) (ps : List ℕ) → All (Unreached (view s) s.jobs) (unreached_of s ps)
+pub all_unreached_lem : (s : State) (ps : List ℕ) → AllByRecursion (Unreached (view s) s.jobs) (unreached_of s ps)
 all_unreached_lem s [] = tt
 all_unreached_lem s (p ∷ ps) = go (is_unreached s p) refl (all_unreached_lem s ps)
   where
-    go : (b : Bool) → is_unreached s p ≡ b → All (Unreached (view s) s.jobs) (unreached_of s ps)
-        → All (Unreached (view s) s.jobs) (cond b (p ∷ unreached_of s ps) (unreached_of s ps))
+    go : (b : Bool) → is_unreached s p ≡ b → AllByRecursion (Unreached (view s) s.jobs) (unreached_of s ps)
+        → AllByRecursion (Unreached (view s) s.jobs) (cond b (p ∷ unreached_of s ps) (unreached_of s ps))
     go true e rest = (is_unreached_lem s p e, rest)
     go false e rest = rest
 
 -- a part of a list
-all_unreached_of : (P : ℕ → Type 0) (s : State) (ps : List ℕ) → All P ps → All P (unreached_of s ps)
+all_unreached_of : (P : ℕ → Type 0) (s : State) (ps : List ℕ) → AllByRecursion P ps → AllByRecursion P (unreached_of s ps)
 all_unreached_of P s [] all = tt
 all_unreached_of P s (p ∷ ps) all =
     let rest = all_unreached_of P s ps all.1 in
-    elim (is_unreached s p) as (λ (b : Bool). All P (cond b (p ∷ unreached_of s ps) (unreached_of s ps))) [
+    elim (is_unreached s p) as (λ (b : Bool). AllByRecursion P (cond b (p ∷ unreached_of s ps) (unreached_of s ps))) [
       | true ↦ (all.0, rest)
       | false ↦ rest
     ]

@@ -15,7 +15,7 @@ use Rattle.model.specs.declared.jobs.Kind.{Kind}
 use Rattle.model.specs.declared.jobs.Kind.TheVariants.{Look, Enter, Strike}
 use Rattle.model.specs.declared.jobs.Task.{Task}
 use Rattle.model.specs.Answers.{code}
-use Rattle.model.specs.Lists.{All}
+use Rattle.std.specs.List.{AllByRecursion}
 use Rattle.model.specs.Entries.{KeyOrder, find, insert, remove}
 use Rattle.model.specs.States.{root, readable, State, Outcome, refused, view, write, free_head}
 use Rattle.model.specs.Splits.{split_full}
@@ -91,7 +91,7 @@ module _ {o : KeyOrder} (laws : Lawful o.keyed o.compared) {s : State} {r : Refe
           (upd (view s) j.page (with_entries es x)) (free_head s) (root s)
       edited_reads = reads_leaf inv.written j.page es live leaf (omega (arith, inv.written.fill_most))
 
-      edited_inv : Sorted o es → All (λ e. Covers o x e.key) es → Inv o (write j.page (with_entries es x) s)
+      edited_inv : Sorted o es → AllByRecursion (λ e. Covers o x e.key) es → Inv o (write j.page (with_entries es x) s)
       edited_inv sorted inside =
           let p = j.page in
           let page = leaf_edited s.fill (view s) x es (inv.tree.live p live) leaf few sorted inside in

@@ -5,7 +5,8 @@ use Rattle.order.specs.Laws.{Lawful}
 use Rattle.page.specs.declared.entries.Entry.{Entry}
 use Rattle.page.specs.declared.pages.PageState.TheVariants.{Free, Live}
 use Rattle.page.specs.Pages.{Page}
-use Rattle.model.specs.Lists.{All, In, Once}
+use Rattle.std.specs.List.{AllByRecursion}
+use Rattle.model.specs.Lists.{In, Once}
 use Rattle.model.specs.Entries.{KeyOrder}
 use Rattle.model.specs.States.{has_form}
 use Rattle.model.specs.Upkeep.{free_page_to}
@@ -87,7 +88,7 @@ module _ (f : ℕ → Page) (p : ℕ) (x : Page) where
         (apart_changed b) (λ m other. apart_other m other b) a
 
   -- a chain past the changed page
-  linked_other : (h : ℕ) (ps : List ℕ) → All (λ q. q ≢ p) ps → Linked f h ps → Linked (upd f p x) h ps
+  linked_other : (h : ℕ) (ps : List ℕ) → AllByRecursion (λ q. q ≢ p) ps → Linked f h ps → Linked (upd f p x) h ps
   linked_other h [] away l = l
   linked_other h (q ∷ qs) away l =
       let e = upd_other f p q x away.0 in
@@ -107,7 +108,7 @@ module _ (f : ℕ → Page) (p : ℕ) (x : Page) where
   holds_kept d dead h = holds_other d h (λ e. dead (subst (λ (m : ℕ). (f m).state ≡ Live) e h.live))
 
 -- all pages of the chain are free
-linked_free : (f : ℕ → Page) (h : ℕ) (ps : List ℕ) → Linked f h ps → All (λ q. (f q).state ≡ Free) ps
+linked_free : (f : ℕ → Page) (h : ℕ) (ps : List ℕ) → Linked f h ps → AllByRecursion (λ q. (f q).state ≡ Free) ps
 linked_free f h [] l = tt
 linked_free f h (p ∷ ps) l = (l.1, linked_free f (f p).link ps l.2)
 
@@ -133,7 +134,7 @@ module _ (f : ℕ → Page) (n : ℕ) (x : Page) (used : x.state ≢ Free) (free
   chain_rest h [] e l once all = absurd (all n free)
   chain_rest h (p ∷ ps) e l once all =
       let same : p ≡ n = sym l.0 ∙ e in
-      let away = subst (λ (m : ℕ). All (λ q. q ≢ m) ps) same once.0 in
+      let away = subst (λ (m : ℕ). AllByRecursion (λ q. q ≢ m) ps) same once.0 in
       let rest = subst (λ (m : ℕ). Linked f (f m).link ps) same l.2 in
       record {
         pages = ps;

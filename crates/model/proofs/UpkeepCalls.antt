@@ -12,7 +12,8 @@ use Rattle.model.specs.declared.answers.Done.TheVariants.{Posted}
 use Rattle.model.specs.declared.answers.Refusal.{Refusal}
 use Rattle.model.specs.declared.answers.Refusal.TheVariants.{NoInner, Nothing, NoFreePage, Unreadable}
 use Rattle.model.specs.declared.jobs.Job.{Job}
-use Rattle.model.specs.Lists.{All, Once}
+use Rattle.std.specs.List.{AllByRecursion}
+use Rattle.model.specs.Lists.{Once}
 use Rattle.model.specs.Entries.{KeyOrder}
 use Rattle.model.specs.States.{State, Outcome, refused, answered, view, write, root, free_head, free_page, is_live}
 use Rattle.model.specs.States.{readable}
@@ -53,7 +54,7 @@ inner_parts fill x h =
 
 -- pages that join the free chain one by one
 reads_give_back_all : (ps : List ℕ) {s : State} {f : ℕ → Page} {h r : ℕ} → Reads s f h r
-    → All (λ p. (0 < p) × (p < s.pages)) ps → Reads (give_back_all ps s) (free_all f h ps) (head_after h ps) r
+    → AllByRecursion (λ p. (0 < p) × (p < s.pages)) ps → Reads (give_back_all ps s) (free_all f h ps) (head_after h ps) r
 reads_give_back_all [] rd all = rd
 reads_give_back_all (p ∷ ps) rd all = reads_give_back_all ps (reads_give_back rd p all.0.0 all.0.1) all.1
 
@@ -71,7 +72,7 @@ module _ {o : KeyOrder} (laws : Lawful o.keyed o.compared) {s : State} {r : Refe
       and_from _ _ (page_readable inv c (live_held h.live))
       (and_from _ _ (ap is_live h.live) (eq-eqb _ _ (omega (arith, h.below))))
 
-  children_right : (l : ℕ) (es : List Entry) → All (λ e. Child (view s) l (Some e.key) e.value) es
+  children_right : (l : ℕ) (es : List Entry) → AllByRecursion (λ e. Child (view s) l (Some e.key) e.value) es
       → wrong_child s (suc l) es ≡ None
   children_right l [] h = refl
   children_right l (e ∷ es) h =
@@ -209,7 +210,7 @@ module _ {o : KeyOrder} (laws : Lawful o.keyed o.compared) {s : State} {r : Refe
       in_index : (q : ℕ) → Unreached (view s) s.jobs q → (0 < q) × (q < s.pages)
       in_index q u = let i = gone_in_range s q u.gone in (i.0, i.1)
 
-      by_list : (ps : List ℕ) → Once ps → All (Unreached (view s) s.jobs) ps → Quiet o (sweep_pages ps s) r
+      by_list : (ps : List ℕ) → Once ps → AllByRecursion (Unreached (view s) s.jobs) ps → Quiet o (sweep_pages ps s) r
       by_list [] once all = refused_quiet inv agrees Nothing (λ q. omega arith)
       by_list (p ∷ ps) once all =
           let qs = p ∷ ps in

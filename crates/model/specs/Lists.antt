@@ -1,10 +1,6 @@
 -- What is said of the members of a list.
+use Rattle.std.specs.List.{AllByRecursion}
 use Rattle.std.specs.Prelude.{◌≡◌, ◌≢◌, ◌⊎◌, List, [], ◌∷◌}
-
--- each element has P
-abbrev pub All : {A : Type 0} → (A → Type 0) → List A → Type 0
-All P [] = Unit {0}
-All P (x ∷ xs) = P x × All P xs
 
 -- x stands in the list
 abbrev pub In : {A : Type 0} → A → List A → Type 0
@@ -14,4 +10,4 @@ In x (y ∷ ys) = (x ≡ y) ⊎ In x ys
 -- nothing stands twice
 abbrev pub Once : {A : Type 0} → List A → Type 0
 Once [] = Unit {0}
-Once (x ∷ xs) = All (λ y. y ≢ x) xs × Once xs
+Once (x ∷ xs) = AllByRecursion (λ y. y ≢ x) xs × Once xs

@@ -7,7 +7,8 @@ use Rattle.page.specs.declared.entries.Entry.{Entry}
 use Rattle.page.specs.declared.pages.PageState.{PageState}
 use Rattle.page.specs.declared.pages.PageState.TheVariants.{Free, Live, Gone, Damaged}
 use Rattle.page.specs.Pages.{Page, page_run, words_of, head_words, bound_key}
-use Rattle.model.specs.Lists.{All, In, Once}
+use Rattle.std.specs.List.{AllByRecursion}
+use Rattle.model.specs.Lists.{In, Once}
 use Rattle.model.specs.Entries.{KeyOrder}
 use Rattle.model.specs.States.{State, view, root, free_head, has_form}
 use Rattle.model.specs.Starts.{pages_in}
@@ -41,7 +42,7 @@ module _ (o : KeyOrder) where
   KeyOrNone (Some k) = o.keyed k ≡ true
 
   abbrev pub KeysAreKeys : List Entry → Type 0
-  KeysAreKeys es = All (λ e. o.keyed e.key ≡ true) es
+  KeysAreKeys es = AllByRecursion (λ e. o.keyed e.key ≡ true) es
 
   -- the keys of a leaf are keys, and so are those of an inner page but for the first, which is its start's words
   abbrev pub EntryKeys : ℕ → Option Key → List Entry → Type 0
@@ -82,7 +83,7 @@ module _ (o : KeyOrder) where
   -- the chain of a level, from the page without a start, passes each live page of the level once
   pub record LevelRule (s : State) (l : ℕ) : Type 0 where
     pub begins : BeginsAt s (level_pages s l)
-    pub live : All (λ p. ((view s p).state ≡ Live) × ((view s p).level ≡ l)) (level_pages s l)
+    pub live : AllByRecursion (λ p. ((view s p).state ≡ Live) × ((view s p).level ≡ l)) (level_pages s l)
     pub passes : (p : ℕ) → (view s p).state ≡ Live → (view s p).level ≡ l → In p (level_pages s l)
     pub once : Once (level_pages s l)
     pub neighbours : Neighbours s (level_pages s l)
@@ -90,7 +91,7 @@ module _ (o : KeyOrder) where
   -- each key is before all that follow
   abbrev pub Rise : List Entry → Type 0
   Rise [] = Unit {0}
-  Rise (e ∷ es) = All (λ d. o.compared e.key d.key ≡ Less) es × Rise es
+  Rise (e ∷ es) = AllByRecursion (λ d. o.compared e.key d.key ≡ Less) es × Rise es
 
   -- a key is not before a start; a key is after a start; a key is before an end
   abbrev pub NotBefore : Option Key → Key → Type 0
@@ -107,9 +108,9 @@ module _ (o : KeyOrder) where
 
   -- a leaf's keys rise strictly within its range; so do an inner page's after the first, all after its start
   abbrev pub OrderRule : Page → ℕ → List Entry → Type 0
-  OrderRule x zero es = Rise es × All (λ e. NotBefore x.start e.key × Ahead e.key x.end) es
+  OrderRule x zero es = Rise es × AllByRecursion (λ e. NotBefore x.start e.key × Ahead e.key x.end) es
   OrderRule x (suc l) [] = Unit {0}
-  OrderRule x (suc l) (e ∷ es) = Rise es × All (λ d. Behind x.start d.key × Ahead d.key x.end) es
+  OrderRule x (suc l) (e ∷ es) = Rise es × AllByRecursion (λ d. Behind x.start d.key × Ahead d.key x.end) es
 
 -- page c is live, of level l, and has this start
 pub record Child (f : ℕ → Page) (l : ℕ) (start : Option Key) (c : ℕ) : Type 0 where
@@ -123,7 +124,7 @@ abbrev pub ChildRule : State → Page → ℕ → List Entry → Type 0
 ChildRule s x zero es = Unit {0}
 ChildRule s x (suc l) [] = ⊥
 ChildRule s x (suc l) (e ∷ es) =
-    Child (view s) l x.start e.value × All (λ d. Child (view s) l (Some d.key) d.value) es
+    Child (view s) l x.start e.value × AllByRecursion (λ d. Child (view s) l (Some d.key) d.value) es
 
 -- a gone page points to a live or gone page of its level with an earlier start
 pub record GoneRule (o : KeyOrder) (s : State) (x : Page) : Type 0 where

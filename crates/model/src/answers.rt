@@ -9,6 +9,7 @@ use crate::jobs::NoKind;
 pub type Answer = Result<Done, Refusal>;
 
 /// Why a call was refused: each case has a code, and where it says so a figure.
+// No `Display`: a refusal is told by its code and figure, and is never printed.
 #[derive(Clone, Copy, Debug, PartialEq, Eq)]
 pub enum Refusal {
     /// 1: the store has fewer than 128 words
@@ -122,6 +123,7 @@ impl Done {
 }
 
 /// The code of an answer and its figure, which is 0 where the answer names none.
+// Two numbers, since they are the project's interface; a function and no `From`, which would not say what they are.
 pub fn pair(answer: Answer) -> (u64, u64)
     ensures code { result.0 ≡ code answer }
     ensures figure { result.1 ≡ figure answer }

@@ -15,6 +15,7 @@ pub enum Kind {
 }
 
 /// A number that names no kind.
+// No `Display`: it becomes a refusal, and is never printed.
 #[derive(Clone, Copy, Debug, PartialEq, Eq)]
 pub struct NoKind(pub u64);
 

@@ -1,4 +1,5 @@
-//! What is proved of every history of calls. Each function's contract is the promise that it is named for.
+//! What is proved of every history of calls. Each function's contract is the promise that it is named for; the byte that
+//! it gives back means nothing.
 ghost use Rattle.model.specs.Example.{WorkedExample};
 ghost use Rattle.model.specs.Jobs.{SameJobsSameAnswers};
 ghost use Rattle.model.specs.Promises.{AloneWithinPages, AnswersAsReference, SoundAfterAll};

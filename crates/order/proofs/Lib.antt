@@ -1,3 +1,4 @@
+pub mod Meanings
 pub mod Names
 pub mod Padding
 pub mod Shelf

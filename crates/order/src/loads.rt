@@ -82,6 +82,7 @@ impl From<LoadKey> for Key {
     }
 }
 
+// Written by hand: the derive of `thiserror` says nothing of what is printed, and this does.
 impl fmt::Display for NoLoad {
     ghost output = { λ _. Some (codes "the key stands for no load") };
 

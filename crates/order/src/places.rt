@@ -13,6 +13,7 @@ use std::fmt;
 const LONGEST_NAME: usize = 16;
 
 /// The name of a place: the first `len` bytes of its text, which is 0 from there on.
+// An array and a length, in fixed memory; the zeros behind the name are those of its key.
 #[derive(Clone, Copy, PartialEq, Eq, Debug, Hash)]
 pub struct PlaceName {
     text: [u8; LONGEST_NAME],
@@ -157,6 +158,7 @@ impl From<PlaceName> for Key {
     }
 }
 
+// Written by hand: the derive of `thiserror` says nothing of what is printed, and this does.
 impl fmt::Display for NoName {
     ghost output = { λ _. Some (codes "no name of 1 to 16 printed bytes") };
 

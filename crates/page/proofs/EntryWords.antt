@@ -36,15 +36,15 @@ length_read zero ws = refl
 length_read (suc n) ws = ap suc (length_read n (drop 3 ws))
 
 -- the next entry is read behind the others, for which there is room
-pub entry_read : (xs : List (List ℕ)) (i : ℕ) (d : List ℕ) (es fs : List Entry) (room : Bool) → i < length xs → length xs ≤ 18
-    → es ≡ map entry_of (take i xs) → room ≡ has_room es 1 → fs ≡ cond room (es ++ entry_of (get_or xs i d) ∷ []) es
+pub entry_read : (xs : List (List ℕ)) (i : ℕ) (d : List ℕ) (es fs : List Entry) (room : Bool) → i < length xs
+    → length xs ≤ 18 → es ≡ map entry_of (take i xs) → room ≡ has_room es 1 → fs ≡ cond room (es ++ entry_of (get_or xs i d) ∷ []) es
     → fs ≡ map entry_of (take (i + 1) xs)
 entry_read xs i d es fs room within few before said pushed = grind (arith, nat_tests, common_steps)
 
 -- as many are read as are asked for
 pub entries_read : (ws : List ℕ) (chunks : List (List ℕ)) (n i : ℕ) (es : List Entry) → length ws ≡ 54 → n ≤ 18
-    → chunks ≡ first_chunks 3 (length ws / 3) ws → length (take n chunks) ≤ i → es ≡ map entry_of (take i (take n chunks))
-    → es ≡ entries_from n ws
+    → chunks ≡ first_chunks 3 (length ws / 3) ws → length (take n chunks) ≤ i
+    → es ≡ map entry_of (take i (take n chunks)) → es ≡ entries_from n ws
 entries_read ws chunks n i es full few chunked end read =
     read
     ∙ ap (map entry_of) (take_all i (take n chunks) end ∙ ap (take n) chunked)

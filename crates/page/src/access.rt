@@ -15,9 +15,8 @@ pub fn read_word<S: Store>(store: &S, at: u64) -> u64
     store.read(at).unwrap_or(0)
 }
 
-// Two functions for words 3 and 4, since each reads the one word that is asked for; one for both would be `read_word`.
-
 /// The first free page, or 0: word 3 of page 0.
+// Beside `read_root`, since one function for both would take the place of the word, and that is `read_word`.
 pub fn read_free<S: Store>(store: &S) -> u64
     ensures { result ≡ slice_index (S.words store.now) 3 }
 {
@@ -51,6 +50,7 @@ fn load<S: Store>(store: &S, page: u64) -> Option<[u64; PAGE_WORDS]>
 {
     let place = place_of(store, page)?;
     let mut loaded = [0; PAGE_WORDS];
+    // a store is read and written by the places of its words, so both loops need them
     for (i, word) in loaded.iter_mut().enumerate() {
         *word = store.read(place + i as u64)?;
     }

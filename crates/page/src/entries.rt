@@ -13,7 +13,8 @@ pub struct Entry {
 }
 
 /// The entries of one page in their order, in memory for as many as a page has room for.
-// Behind the last stand zeros, so that a contract can see the list of the entries and no more, and equal entries are
+// An array and a count in fixed memory, and not the kit's `ArrayVec`, which is not copied; no call may fail for want of
+// memory. Behind the last stand zeros, so that a contract can see the list of the entries and no more, and equal entries are
 // equal in memory.
 #[derive(Clone, Copy, PartialEq, Eq, Debug)]
 pub struct Entries {

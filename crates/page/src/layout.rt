@@ -31,10 +31,12 @@ const FIRST_ENTRY: usize = 10;
 const ENTRY_WORDS: usize = 3;
 
 /// Why 64 words are no page: they say more entries than a page has room for.
+// No `Display`: a call tells it by the page's number, and it is never printed.
 #[derive(Clone, Copy, PartialEq, Eq, Debug)]
 pub struct TooManyEntries;
 
 // The start or end that three words say, which is there if the first of them is not 0.
+// A function and no `From`, as with `bound_words`: neither an option nor an array of words is a type of ours.
 fn bound_from(words: &[u64]) -> Option<Key>
     requires { length words.now ≡ 3 }
     ensures { result ≡ bound_from words.now 0 }
@@ -45,7 +47,7 @@ fn bound_from(words: &[u64]) -> Option<Key>
     }
 }
 
-// As many entries as are asked for, if a page has room for so many.
+// As many entries as are asked for, if a page has room for so many. No `TryFrom`: it takes the count beside the words.
 fn entries_from(count: u64, words: &[u64]) -> Result<Entries, TooManyEntries>
     requires { length words.now ≡ 54 }
     ensures { MatchResult result

@@ -92,6 +92,7 @@ pub fn read_call(line: &[u8]) -> Option<CallLine>
 #[derive(Clone, Copy, Debug, PartialEq, Eq)]
 pub struct UnknownCall(pub u64);
 
+// Written by hand: the derive of `thiserror` says nothing of what is printed, and this does.
 impl fmt::Display for UnknownCall {
     ghost output = { λ e. Some (codes "there is no call " ++ decimal e.0) };
 

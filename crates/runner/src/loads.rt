@@ -16,7 +16,8 @@ pub fn run_loads(input: &[u8], output: &mut [u8]) -> usize
         (answers_to load_order input.now (zeros 3072) result) }
     ensures promises { RunKept load_order input.now (zeros 3072) }
 {
-    // `run_new` is all that it shares with `run_places`: the memory differs in type, and stays here while it is lent
+    // `run_new` is all that it shares with `run_places`: the memory, fixed as the project asks,
+    // differs in type, and stays here while it is lent
     let mut words = [0; NEW_WORDS];
     run_new::<WordStore, LoadOrder>(WordStore::new(&mut words), input, output)
 }

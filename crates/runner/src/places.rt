@@ -28,7 +28,8 @@ pub fn run_places(input: &[u8], output: &mut [u8]) -> usize
         (answers_to place_order input.now (zeros 3072) result) }
     ensures promises { RunKept place_order input.now (zeros 3072) }
 {
-    // `run_new` is all that it shares with `run_loads`: the memory differs in type, and stays here while it is lent
+    // `run_new` is all that it shares with `run_loads`: the memory, fixed as the project asks,
+    // differs in type, and stays here while it is lent
     let mut lines = [zero_line(); NEW_WORDS];
     run_new::<TextStore, FoldedPlaceOrder>(TextStore::open(lines.as_flattened_mut()), input, output)
 }

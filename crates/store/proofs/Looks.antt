@@ -1,6 +1,7 @@
 -- What the answer of a read tells of the place that was read.
-use Rattle.std.proofs.Common.{◌≡◌, ℕ, ◌<◌, ◌≤◌, List, length, get_or, Some, None, refl, inl, inr, arith}
-use Rattle.std.proofs.lemmas.Bool.{cases_lt, lt-ltb, le-ltb}
+use Rattle.std.proofs.Common.{◌≡◌, ℕ, ◌<◌, ◌≤◌, List, length, get_or, Some, None, refl, arith}
+use Rattle.std.proofs.lemmas.Bool.{lt-ltb, le-ltb}
+use Rattle.std.proofs.lemmas.Bool.Decides.{nat_tests}
 use Rattle.store.specs.Words.{word_at}
 
 -- within the length a read gives the word
@@ -13,14 +14,8 @@ past_is words at h = rw (le-ltb at (length words) h) refl
 
 -- a read that gives none was at or beyond the length
 pub none_past : (words : List ℕ) (at : ℕ) → None ≡ word_at words at → length words ≤ at
-none_past words at e = elim (cases_lt at (length words)) [
-  | inl l ↦ let s = within_is words at l in let z : ◌≡◌ {A = ℕ} 0 1 = cc in absurd (omega arith)
-  | inr h ↦ h
-]
+none_past words at e = grind (arith, nat_tests)
 
 -- a read that gives a word was within the length, and the word stands there
 pub some_word : (words : List ℕ) (at x : ℕ) → Some x ≡ word_at words at → (at < length words) × (x ≡ get_or words at 0)
-some_word words at x e = elim (cases_lt at (length words)) [
-  | inl l ↦ let s = within_is words at l in (l, cc)
-  | inr h ↦ let s = past_is words at h in let z : ◌≡◌ {A = ℕ} 0 1 = cc in absurd (omega arith)
-]
+some_word words at x e = grind (arith, nat_tests)

@@ -1,5 +1,5 @@
 -- A number in a column: what is written is read back, and what is read is written so.
-use Rattle.std.proofs.Common.{◌≡◌, ℕ, zero, suc, ◌+◌, ◌-◌, ◌^◌, ◌<◌, ◌≤◌, true, false, eqb, List, [], ◌∷◌, ◌++◌, length, get_or, take, drop, replicate, Some, None, Ok, Err, Result, decimal, sym, refl, ap, ◌∙◌, inl, inr, arith, rules}
+use Rattle.std.proofs.Common.{◌≡◌, ℕ, zero, suc, ◌-◌, ◌^◌, ◌<◌, ◌≤◌, true, false, List, [], ◌∷◌, ◌++◌, length, get_or, take, drop, replicate, Some, None, Ok, Err, Result, decimal, refl, ◌∙◌, arith, rules}
 use Rattle.std.specs.Result.{result_ok}
 use Rattle.std.specs.Str.{IsUtf8, all_ascii_digits}
 use Rattle.std.specs.Str.Parse.{ParsesUnsigned}
@@ -7,9 +7,9 @@ use Rattle.std.proofs.lemmas.List.{length-append, length-replicate, take_rest}
 use Rattle.std.proofs.lemmas.Str.{IsUtf8-from_ascii}
 use Rattle.std.proofs.lemmas.Str.Parse.{IsNumeralModel, numerals_by_fold, parse_plain}
 use Rattle.std.proofs.lemmas.Fmt.{digits_decimal, digits_value-decimal, decimal-digits_value, first_decimal, decimal_nonempty, decimal_digit, length-decimal-le, IsAscii-from_digits}
-use Rattle.std.proofs.lemmas.Bool.{cases_lt, and_parts, ne_eqb, eqb-true, cond_both, lt-ltb, le-leb, false_from_ne_true}
+use Rattle.std.proofs.lemmas.Bool.{ne_eqb, false_from_ne_true}
 use Rattle.std.proofs.lemmas.Bool.Decides.{nat_tests}
-use Rattle.store.specs.Columns.{column, fits_column, trimmed, read_on, plain_front, are_digits, is_column, column_number}
+use Rattle.store.specs.Columns.{column, fits_column, trimmed, read_on, plain_front, are_digits, column_number}
 
 -- `all_ascii_digits` tells the numerals, and `read_on 0` is their number
 pub own : IsNumeralModel (λ ds. all_ascii_digits ds ≡ true) (read_on 0)
@@ -48,37 +48,27 @@ trimmed_short : (xs : List ℕ) → length (trimmed xs) ≤ length xs
 trimmed_short [] = omega arith
 trimmed_short (x ∷ xs) =
     let h = trimmed_short xs in
-    let P : List ℕ → Type 0 = λ l. length l ≤ suc (length xs) in
-    cond_both (eqb x 32) (trimmed xs) (x ∷ xs) P (λ _. omega arith) (λ _. omega arith)
+    grind (arith, nat_tests)
 
 -- what is left out is spaces
 spaces_front : (xs : List ℕ) → replicate (length xs - length (trimmed xs)) 32 ++ trimmed xs ≡ xs
 spaces_front [] = refl
 spaces_front (x ∷ xs) =
-    let P : List ℕ → Type 0 = λ l. replicate (suc (length xs) - length l) 32 ++ l ≡ x ∷ xs in
-    cond_both (eqb x 32) (trimmed xs) (x ∷ xs) P
-    (λ e.
-    let is : x ≡ 32 = eqb-true x 32 e in
-    let more : suc (length xs) - length (trimmed xs) ≡ suc (length xs - length (trimmed xs)) =
-    omega (arith, trimmed_short xs) in
-    rw more (rw is (ap (λ (l : List ℕ). 32 ∷ l) (spaces_front xs))))
-    (λ e. let none : suc (length xs) - suc (length xs) ≡ 0 = omega arith in rw none)
+    let h = spaces_front xs in
+    let short = trimmed_short xs in
+    let none : suc (length xs) - suc (length xs) ≡ 0 = omega arith in
+    let more : suc (length xs) - length (trimmed xs) ≡ suc (length xs - length (trimmed xs)) = omega arith in
+    grind (arith, nat_tests)
 
 -- DIGITS
 
 -- a number as it is written begins with no space, and with no zero but in 0 itself
 front_decimal : (n : ℕ) → n < 2 ^ 64 → (get_or (decimal n) 0 0 ≡ 32 → ⊥) × (plain_front (decimal n) ≡ true)
-front_decimal n small = elim (cases_lt 0 n) [
-  | inl more ↦
-      let first = first_decimal n more small in
-      let some = decimal_nonempty n small in
-      ((λ e. omega arith), grind (arith, nat_tests))
-  | inr none ↦
-      let is = decimal_digit n (omega arith) in
-      let l : length (decimal n) ≡ 1 = ap length is in
-      let f : get_or (decimal n) 0 0 ≡ 48 + n = ap (λ (ds : List ℕ). get_or ds 0 0) is in
-      ((λ e. omega arith), grind (arith, nat_tests))
-]
+front_decimal n small =
+    let first = first_decimal n in
+    let some = decimal_nonempty n small in
+    let digit = decimal_digit n in
+    grind (arith, nat_tests)
 
 -- without its spaces a column is its number as it is written
 trimmed_column : (w n : ℕ) → n < 2 ^ 64 → trimmed (column w n) ≡ decimal n
@@ -92,8 +82,8 @@ column_back w n small =
     let t = trimmed_column w n small in
     let front = (front_decimal n small).1 in
     let all = digits_decimal own n small in
-    let value : read_on 0 (decimal n) ≡ n = digits_value-decimal own n small in
-    simp (t, front, all, value, lt-ltb n (2 ^ 64) small)
+    let value = digits_value-decimal own n small in
+    grind (arith, nat_tests)
 
 -- a plain numeral is what `decimal` writes of its number
 numeral_only : (ds : List ℕ) → plain_front ds ≡ true → are_digits ds ≡ true
@@ -129,13 +119,9 @@ column_parsed {E} bytes (Err e) lead plus parsed =
 pub column_only : (bytes : List ℕ) (n : ℕ) → column_number bytes ≡ Some n
     → (n < 2 ^ 64) × (fits_column (length bytes) n ≡ true) × (column (length bytes) n ≡ bytes)
 column_only bytes n e =
-    let read : (is_column bytes ≡ true) × (read_on 0 (trimmed bytes) ≡ n) = grind arith in
-    let parts = and_parts (plain_front (trimmed bytes)) (are_digits (trimmed bytes)) read.0 in
-    let only = numeral_only (trimmed bytes) parts.0 parts.1 in
-    let is : decimal n ≡ trimmed bytes = ap decimal (sym read.1) ∙ only.1 in
+    let text = trimmed bytes in
+    let read : (plain_front text ≡ true) × (are_digits text ≡ true) × (read_on 0 text ≡ n) = grind (arith, nat_tests) in
+    let only = numeral_only text read.0 read.1 in
     let short = trimmed_short bytes in
-    let same = ap length is in (
-      omega (arith, only.0, read.1),
-      le-leb (length (decimal n)) (length bytes) (omega arith),
-      ap (λ (ds : List ℕ). replicate (length bytes - length ds) 32 ++ ds) is ∙ spaces_front bytes,
-    )
+    let spaces = spaces_front bytes in
+    grind (arith, nat_tests)

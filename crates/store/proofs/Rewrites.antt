@@ -1,25 +1,30 @@
 -- What a read of a text gives, and what it holds when the line of a word is laid over one of its lines.
-use Rattle.std.proofs.Common.{◌≡◌, ℕ, ◌+◌, ◌*◌, ◌<◌, ◌≤◌, List, length, get_or, set, is_some, Some, None, sym, ap, ◌∙◌, inl, inr, arith}
+use Rattle.std.proofs.Common.{◌≡◌, ℕ, ◌+◌, ◌-◌, ◌*◌, ◌<◌, ◌≤◌, Bool, true, cond, eqb, List, length, get_or, take, drop, set, is_some, Some, None, sym, ap, ◌∙◌, subst, inl, inr, arith}
 use Rattle.std.proofs.lemmas.List.{length-set, get_or-set_same, get_or-set_other, ext_get_or}
-use Rattle.std.proofs.lemmas.Bool.{cases_eq, cases_order}
+use Rattle.std.proofs.lemmas.List.Edits.{length-between}
+use Rattle.std.proofs.lemmas.Bool.{cases_eq, cases_order, eq-eqb}
+use borrow.Rule.Slice.PartMut.{put_mid}
 use Rattle.store.specs.Overlay.{overlay, run}
 use Rattle.store.specs.Text.{word_line, line_word, is_line, line_at, LinesTo, or_zero, word_in, words_to, Small}
 use Rattle.store.specs.Words.{word_at}
 use Rattle.store.proofs.Looks.{within_is, past_is}
-use Rattle.store.proofs.Overlays.{run_overlay, run_below, run_above}
+use Rattle.store.proofs.Overlays.{length_overlay, overlay_part, run_overlay, run_below, run_above}
 use Rattle.store.proofs.Texts.{length_word_line, line_word_lem, line_room, length_words, word_at_lem, some_is}
 
 -- a read of a line gives the word at its place
-pub read_is : (bytes : List ℕ) (n i : ℕ) → i < n → LinesTo bytes n
-    → line_word (line_at bytes i) ≡ word_at (words_to bytes n) i
-read_is bytes n i h lines =
+pub read_is : (bytes : List ℕ) (n i start end : ℕ) → i < n → LinesTo bytes n → start ≡ 21 * i → end ≡ 21 * i + 21
+    → line_word (take (end - start) (drop start bytes)) ≡ word_at (words_to bytes n) i
+unfolding run
+read_is bytes n i start end h lines from to =
     let l = length_words bytes n in
-    some_is (line_word (line_at bytes i)) (lines i h)
-    ∙ sym (within_is (words_to bytes n) i (omega arith) ∙ ap Some (word_at_lem bytes n i h))
+    let long : end - start ≡ 21 = omega arith in
+    rw (long, from)
+    (some_is (line_word (line_at bytes i)) (lines i h)
+    ∙ sym (within_is (words_to bytes n) i (omega arith) ∙ ap Some (word_at_lem bytes n i h)))
 
 -- beyond the lines there is none
-pub read_past : (bytes : List ℕ) (n i : ℕ) → n ≤ i → None ≡ word_at (words_to bytes n) i
-read_past bytes n i h = sym (past_is (words_to bytes n) i (omega (arith, length_words bytes n)))
+pub read_past : (bytes : List ℕ) (n i : ℕ) → n ≤ i → word_at (words_to bytes n) i ≡ None
+read_past bytes n i h = past_is (words_to bytes n) i (omega (arith, length_words bytes n))
 
 module _ (bytes : List ℕ) (n k word : ℕ) (within : k < n) (lines : LinesTo bytes n) (small : Small word) where
   -- the text with the line of the word laid over its line k
@@ -75,3 +80,32 @@ module _ (bytes : List ℕ) (n k word : ℕ) (within : k < n) (lines : LinesTo b
             word_at_lem after n i here ∙ ap (λ line. or_zero (line_word line)) (line_other i other)
             ∙ sym (get_or-set_other (words_to bytes n) k i word 0 other ∙ word_at_lem bytes n i here)
       ])
+
+-- the line of a word is laid over the line k of a text, each of whose first n lines is one
+pub record Rewritten (bytes after : List ℕ) (n k word : ℕ) : Type 0 where
+  pub laid : after ≡ overlay bytes (21 * k) (word_line word)
+  pub whole : 21 * n ≤ length after
+  pub formed : LinesTo after n
+  pub words : words_to after n ≡ set (words_to bytes n) k word
+
+-- what a write of a word leaves of a text, if it goes to the part that the line k is
+pub rewritten : (bytes part : List ℕ) (n k word start end : ℕ) (r : Bool) → k < n → 21 * n ≤ length bytes
+    → LinesTo bytes n → Small word → start ≡ 21 * k → end ≡ 21 * k + 21
+    → r ≡ eqb (length (take (end - start) (drop start bytes))) 21
+    → part ≡ cond r (word_line word) (take (end - start) (drop start bytes))
+    → (r ≡ true) × Rewritten bytes (put_mid start (end - start) bytes part) n k word
+rewritten bytes part n k word start end r within whole lines small from to said written =
+    let yes : r ≡ true = said ∙ eq-eqb _ 21 (length-between bytes start end (omega arith) ∙ omega arith) in
+    let is : part ≡ word_line word = rw yes at written in
+    let long = length_word_line word small in
+    let here : put_mid start (end - start) bytes part ≡ overlay bytes (21 * k) (word_line word) =
+    overlay_part start (end - start) bytes part (word_line word) is (omega arith)
+    ∙ ap (λ at. overlay bytes at (word_line word)) from in (
+      yes,
+      record {
+        laid = here;
+        whole = omega (arith, ap length here, length_overlay bytes (21 * k) (word_line word) (omega arith));
+        formed = subst (λ (text : List ℕ). LinesTo text n) (sym here) (lines_after bytes n k word within lines small);
+        words = ap (λ (text : List ℕ). words_to text n) here ∙ words_after bytes n k word within lines small;
+      },
+    )

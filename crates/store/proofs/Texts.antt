@@ -1,10 +1,11 @@
 -- Words as text: a line, and the text that lines make.
-use Rattle.std.proofs.Common.{◌≡◌, ℕ, zero, suc, ◌+◌, ◌-◌, ◌*◌, ◌/◌, ◌^◌, ◌<◌, ◌≤◌, min, Bool, true, false, cond, eqb, List, [], ◌∷◌, ◌++◌, map, length, get_or, take, drop, is_some, Some, None, Err, decimal, Option, sym, refl, ap, ◌∙◌, inl, inr, arith}
+use Rattle.std.proofs.Common.{◌≡◌, ℕ, zero, suc, ◌+◌, ◌-◌, ◌*◌, ◌/◌, ◌^◌, ◌<◌, ◌≤◌, min, Bool, true, false, cond, eqb, List, [], ◌∷◌, ◌++◌, map, length, get_or, drop, is_some, Some, None, Err, decimal, Option, sym, refl, ap, ◌∙◌, inl, inr, arith}
 use Rattle.std.specs.List.{range_with_len, AllByRecursion}
 use Rattle.std.proofs.lemmas.List.{length-append, length-take, length-drop, take_at, drop_at, drop-drop, take-append-drop, take_min, drop_all}
 use Rattle.std.proofs.lemmas.List.FromFn.{length-map-range_with_len, get_or-map-range_with_len, fill_by_all}
 use Rattle.std.proofs.ByRecursion.{All-get_or, All-from_get_or}
-use Rattle.std.proofs.lemmas.Bool.{and_from, cases_lt, eq-eqb, le-leb, lt-ltb, false≢true}
+use Rattle.std.proofs.lemmas.Bool.Decides.{nat_tests}
+use Rattle.std.proofs.lemmas.Bool.{cases_lt, le-leb, lt-ltb, false≢true}
 use Rattle.store.specs.Columns.{column, line_of, fits, fits_line, line_numbers}
 use Rattle.store.specs.Overlay.{run}
 use Rattle.store.specs.Test.{Found}
@@ -30,17 +31,22 @@ length_word_line word small =
     let digits = le-leb (length (decimal word)) 20 (twenty_digits word small) in
     length-append (column 20 word) (10 ∷ []) ∙ omega (arith, length_column 20 word digits)
 
+-- it fits 21 bytes, and no others
+pub word_fits_line : (word room : ℕ) → Small word → fits_line (20 ∷ []) (word ∷ []) room ≡ eqb room 21
+unfolding word_line
+word_fits_line word room small =
+    let fit = word_fits word small in
+    let long = length_word_line word small in
+    simp (fit, long)
+
 -- what `write_line` leaves of 21 bytes
 pub line_written : (word : ℕ) (entry exit : List ℕ) (r : Bool) → Small word → length entry ≡ 21
     → r ≡ fits_line (20 ∷ []) (word ∷ []) (length entry)
     → exit ≡ cond r (line_of (20 ∷ []) (word ∷ [])) entry → exit ≡ word_line word
 unfolding word_line
 line_written word entry exit r small long said written =
-    let same : length entry ≡ length (line_of (20 ∷ []) (word ∷ [])) = long ∙ sym (length_word_line word small) in
-    let fit : fits_line (20 ∷ []) (word ∷ []) (length entry) ≡ true =
-    and_from (fits (20 ∷ []) (word ∷ [])) (eqb (length entry) (length (line_of (20 ∷ []) (word ∷ []))))
-    (word_fits word small) (eq-eqb (length entry) (length (line_of (20 ∷ []) (word ∷ []))) same) in
-    written ∙ ap (λ b. cond b (line_of (20 ∷ []) (word ∷ [])) entry) (said ∙ fit)
+    let fit = word_fits_line word (length entry) small in
+    grind (arith, nat_tests)
 
 -- the word is read back from its line
 pub line_word_lem : (word : ℕ) → Small word → line_word (word_line word) ≡ Some word
@@ -50,16 +56,13 @@ line_word_lem word small = ap first_of (one_line.0 (20 ∷ []) (word ∷ []) (wo
 -- what is read as one column is the line of its number
 first_only : (line : List ℕ) (read : Option (List ℕ)) (word : ℕ) → line_numbers (20 ∷ []) line ≡ read
     → first_of read ≡ Some word → Small word × (line_of (20 ∷ []) (word ∷ []) ≡ line)
-first_only line None word e first = absurd (let z : ◌≡◌ {A = ℕ} 0 1 = cc in omega arith)
-first_only line (Some []) word e first = absurd (let z : ◌≡◌ {A = ℕ} 0 1 = cc in omega arith)
-first_only line (Some (n ∷ [])) word e first =
-    let is : n ≡ word = cc in
-    let only = one_line.1 (20 ∷ []) line (n ∷ []) e in
-    let small = (fits_first 20 n [] [] only.0).0 in
-    (omega arith, ap (λ k. line_of (20 ∷ []) (k ∷ [])) (sym is) ∙ only.1)
-first_only line (Some (n ∷ m ∷ numbers)) word e first =
-    let only = one_line.1 (20 ∷ []) line (n ∷ m ∷ numbers) e in
-    absurd (false≢true (fits_first 20 n [] (m ∷ numbers) only.0).2)
+first_only line None word e first = absurd cc
+first_only line (Some []) word e first = absurd cc
+first_only line (Some (n ∷ numbers)) word e first =
+    let only = one_line.1 (20 ∷ []) line (n ∷ numbers) e in
+    let one = fits_lengths (20 ∷ []) (n ∷ numbers) only.0 in
+    let small = fits_first 20 n [] numbers only.0 in
+    grind (arith, nat_tests)
 
 -- a line is that of the word that is read from it
 pub word_line_lem : (line : List ℕ) (word : ℕ) → line_word line ≡ Some word → Small word × (word_line word ≡ line)
@@ -72,7 +75,7 @@ pub first_word : (line numbers : List ℕ) → Some numbers ≡ line_numbers (20
 first_word line [] e =
     let one = fits_lengths (20 ∷ []) [] (one_line.1 (20 ∷ []) line [] (sym e)).0 in
     absurd (omega arith)
-first_word line (n ∷ numbers) e = ap first_of e
+first_word line (n ∷ numbers) e = cc
 
 -- what is there is there
 pub some_is : (o : Option ℕ) → is_some o ≡ true → o ≡ Some (or_zero o)
@@ -110,20 +113,19 @@ module _ (bytes rest line behind : List ℕ) (i : ℕ) (from : rest ≡ drop (21
   pub chunk_line : line ≡ line_at bytes i
   unfolding run
   chunk_line =
-      sym (ap (take 21) (sym from) ∙ sym (take_min 21 rest) ∙ ap (λ n. take n rest) (sym long) ∙ ap (take (length line)) cut
-      ∙ take_at line behind (length line) refl)
+      let front = take_min 21 rest in
+      let whole = take_at line behind (length line) refl in
+      cc
 
   -- if it is the line of a word, the next line begins behind it
   pub chunk_behind : is_line line ≡ true → (21 * (i + 1) ≤ length bytes) × (behind ≡ drop (21 * (i + 1)) bytes)
   chunk_behind word =
       let room = line_room bytes i (ap is_line (sym chunk_line) ∙ word) in
       let left = ap length from ∙ length-drop (21 * i) bytes in
-      let whole : length line ≡ 21 = omega arith in
-      let next : 21 * (i + 1) ≡ 21 * i + 21 = omega arith in (
-        omega arith,
-        sym (drop_at line behind 21 whole) ∙ ap (drop 21) (sym cut ∙ from) ∙ drop-drop 21 (21 * i) bytes
-            ∙ ap (λ n. drop n bytes) (sym next),
-      )
+      let back = drop_at line behind 21 (omega arith) in
+      let next = drop-drop 21 (21 * i) bytes in
+      let more : 21 * (i + 1) ≡ 21 * i + 21 = omega arith in
+      (omega arith, cc)
 
 -- the test finds a line that is not one, behind lines that are
 pub bad_found : (bytes : List ℕ) (bad : BadLine) (i : ℕ) → bad.0 ≡ i + 1 → 21 * i < length bytes
@@ -173,11 +175,10 @@ text_line [] small i h = absurd (omega arith)
 text_line (w ∷ words) small zero h = take_at (word_line w) (text_of words) 21 (length_word_line w small.0)
 text_line (w ∷ words) small (suc i) h =
     let more : 21 * suc i ≡ 21 + 21 * i = omega arith in
-    let behind : drop (21 * suc i) (word_line w ++ text_of words) ≡ drop (21 * i) (text_of words) =
-    ap (λ k. drop k (word_line w ++ text_of words)) more
-    ∙ sym (drop-drop (21 * i) 21 (word_line w ++ text_of words))
-    ∙ ap (drop (21 * i)) (drop_at (word_line w) (text_of words) 21 (length_word_line w small.0)) in
-    ap (take 21) behind ∙ text_line words small.1 i (omega arith)
+    let next = drop-drop (21 * i) 21 (word_line w ++ text_of words) in
+    let behind = drop_at (word_line w) (text_of words) 21 (length_word_line w small.0) in
+    let rest = text_line words small.1 i (omega arith) in
+    cc
 
 -- so it is read back
 text_word : (words : List ℕ) → AllByRecursion Small words → (i : ℕ) → i < length words
@@ -213,8 +214,7 @@ text_from bytes (suc n) i l lines =
     let line = line_is bytes i (lines i (omega arith)) in
     let rest = text_from bytes n (i + 1) (omega arith) (λ k h. lines k (omega arith)) in
     let more : 21 * (i + 1) ≡ 21 * i + 21 = omega arith in
-    let behind : drop (21 * (i + 1)) bytes ≡ drop 21 (drop (21 * i) bytes) =
-    ap (λ k. drop k bytes) more ∙ sym (drop-drop 21 (21 * i) bytes) in
+    let next = drop-drop 21 (21 * i) bytes in
     let whole = take-append-drop 21 (drop (21 * i) bytes) in
     cc
 

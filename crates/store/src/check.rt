@@ -8,6 +8,7 @@ use std::error::Error;
 use std::fmt;
 
 /// How many bytes a text may have: 4,096 pages of 64 lines, which are 262,144 lines.
+// The numbers of the crates above, which know this one.
 pub const MOST_BYTES: usize = 4_096 * 64 * LINE;
 
 /// How many words a text holds.
@@ -33,6 +34,7 @@ pub enum TextError {
 }
 
 /// `12 3` where line 3 is the first that is not in form, and plain words for a text that is too long.
+// Written by hand: the derive of `thiserror` says nothing of what is printed, and this does.
 impl fmt::Display for TextError {
     ghost output = { λ error. Some (shown_of (Err error)) };
 

@@ -49,6 +49,7 @@ pub fn write_column(out: &mut [u8], number: u64) -> bool
 }
 
 /// The numbers in a line of columns of these widths, which ends with a newline and has nothing behind it.
+// `one_line` is a theorem: each public function that it is about names it, here and below.
 #[tactic(auto, using(crate::proofs::Lines::one_line))]
 pub fn read_line<const N: usize>(widths: &[usize; N], line: &[u8]) -> Option<[u64; N]>
     ensures numbers { result ≡ line_numbers widths.now line.now }
@@ -65,6 +66,7 @@ pub fn read_line<const N: usize>(widths: &[usize; N], line: &[u8]) -> Option<[u6
     matches!(rest, [b'\n']).then_some(numbers)
 }
 
+// Slices beside each other and no arrays of one length: a number too few is refused, and not ruled out by a type.
 // Whether there is a number for each width, which fits it, and the line is just as long as the room for it.
 #[tactic(auto, using(crate::proofs::Fitting::lengths_differ))]
 fn fits_line(widths: &[usize], numbers: &[u64], room: usize) -> bool

@@ -1,9 +1,9 @@
 //! The text form of words: each word is a line of 21 bytes, the word at the right of 20 bytes and a newline.
-ghost use Rattle.std.specs.Prelude.{◌≡◌, ◌++◌, Some, codes, decimal};
-ghost use Rattle.store.specs.Text.{line_word, OneTextForm};
+ghost use Rattle.std.specs.Prelude.{◌≡◌, ◌==◌, ◌++◌, length, if◌then◌else◌, Some, codes, decimal};
+ghost use Rattle.store.specs.Text.{word_line, line_word, OneTextForm};
 ghost use Rattle.store.specs.Test.{Found, answer_of};
 
-use crate::columns::read_line;
+use crate::columns::{read_line, write_line};
 use std::error::Error;
 use std::fmt;
 
@@ -22,6 +22,15 @@ pub(crate) fn read_word(line: &[u8]) -> Option<u64>
     Some(word)
 }
 
+// Writes the line of a word, and says whether it could: there are as many bytes as a line has.
+#[tactic(auto, using(crate::proofs::Texts::word_fits_line), unfolding(crate::specs::Text::word_line))]
+pub(crate) fn write_word(line: &mut [u8], word: u64) -> bool
+    ensures said { result ≡ (length line.old == 21) }
+    ensures written { line.new ≡ (if result then word_line word else line.old) }
+{
+    write_line(&[COLUMN], &[word], line)
+}
+
 /// Why a text is not in form: the first line, counted from 1, that is not that of a word. A last line that is cut off
 /// is such a line.
 #[derive(Clone, Copy, PartialEq, Eq, Debug)]
@@ -37,6 +46,7 @@ impl BadLine {
 }
 
 /// `12 3` where line 3 is the first that is not in form.
+// Written by hand: the derive of `thiserror` says nothing of what is printed, and this does.
 impl fmt::Display for BadLine {
     ghost output = { λ bad. Some (codes "12 " ++ decimal bad.0) };
 
@@ -48,6 +58,7 @@ impl fmt::Display for BadLine {
 impl Error for BadLine {}
 
 /// Tests whether a text is in form, and says how many words it has. An empty text is in form, with no words.
+// `one_form` is a theorem: each public function that it is about names it.
 #[tactic(auto, using(crate::proofs::Texts::one_text_form))]
 pub fn test_text(bytes: &[u8]) -> Result<u64, BadLine>
     ensures found { Found bytes.now result }

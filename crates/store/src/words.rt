@@ -4,7 +4,7 @@ ghost use Rattle.std.specs.Prelude.{◌≡◌, length, nat_lt, slice_set};
 use crate::Store;
 
 /// A store whose words are those of a caller's slice.
-#[derive(Drop)]
+#[derive(Debug, Drop)]
 pub struct WordStore<'a> {
     words: &'a mut [u64],
 }
@@ -26,7 +26,7 @@ impl<'a> WordStore<'a> {
     }
 }
 
-impl<'a> Store for WordStore<'a> {
+impl Store for WordStore<'_> {
     ghost words = { λ s. s.words.now };
 
     fn length(&self) -> u64 {
@@ -42,6 +42,7 @@ impl<'a> Store for WordStore<'a> {
         ensures written { self.new.words.now ≡ slice_set self.old.words.now at word }
         ensures tied { self.new.words.ghost_name ≡ self.old.words.ghost_name }
     {
+        // what `get_mut` lends would leave the proof nothing of the words
         let i = at as usize;
         if i < self.words.len() {
             self.words[i] = word;

@@ -7,6 +7,9 @@ use store::Store;
 use store::text::TextStore;
 use store::words::WordStore;
 
+// `put_word` and `put_line`, and no one function over any store: it would take the store by value, and leave its caller
+// nothing of what was lent.
+
 /// Puts a word into words through a store over them.
 pub fn put_word(words: &mut [u64], at: u64, word: u64) -> bool
     ensures said { result ≡ nat_lt at (length words.old) }

@@ -6,5 +6,5 @@ use Rattle.page.proofs.entries.Entries.cut.Goals as goal
 pub invariant_of-self : goal.invariant_of-self
 invariant_of-self c =
     closed
-    (cut_off c.min-kept.result _ _ (opened c.self.view_is c.self.invariant) (omega arith) (default_is _ c.default.ensures)
-    (c.fill.ensures.after (λ y h. h)))
+    (cut_off c.min-kept.result _ _ (opened c.self.view_is c.self.invariant) (omega arith)
+    (default_is _ c.default.ensures) (c.fill.ensures.after (λ y h. h)))

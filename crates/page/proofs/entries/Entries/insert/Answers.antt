@@ -6,9 +6,15 @@ use Rattle.page.proofs.entries.Entries.insert.Goals as goal
 pub invariant_of-self : goal.invariant_of-self
 invariant_of-self c =
     let long = (opened c.self.view_is c.self.invariant).long in
-    closed (put_before c.args.self.now c.args.entry c.args.at _ _ (opened (c.self-2.view_is ∙ c.put_behind.ensures) c.self-2.invariant) (omega arith) refl c.rotate_right.ensures.after)
+    closed
+    (put_before c.args.self.now _ c.args.at _ _
+    (opened (c.self-2.view_is ∙ c.put_behind.ensures) c.self-2.invariant) (omega arith) refl
+    c.rotate_right.ensures.after)
 
 pub returns-clause-inserted : goal.returns-clause-inserted
 returns-clause-inserted c =
     let long = (opened c.self.view_is c.self.invariant).long in
-    viewed (put_before c.args.self.now c.args.entry c.args.at _ _ (opened (c.self-2.view_is ∙ c.put_behind.ensures) c.self-2.invariant) (omega arith) refl c.rotate_right.ensures.after)
+    viewed
+    (put_before c.args.self.now _ c.args.at _ _
+    (opened (c.self-2.view_is ∙ c.put_behind.ensures) c.self-2.invariant) (omega arith) refl
+    c.rotate_right.ensures.after)
