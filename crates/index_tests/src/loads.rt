@@ -3,21 +3,21 @@ use index::Index;
 use order::{Key, LoadOrder};
 use store::words::WordStore;
 
-pub const LOOK: u64 = 1;
+pub(crate) const LOOK: u64 = 1;
 
-pub const ENTER: u64 = 2;
+pub(crate) const ENTER: u64 = 2;
 
-pub const STRIKE: u64 = 3;
+pub(crate) const STRIKE: u64 = 3;
 
-pub type Loads<'a> = Index<WordStore<'a>, LoadOrder>;
+pub(crate) type Loads<'a> = Index<WordStore<'a>, LoadOrder>;
 
-/// Truck 7 at a second.
-pub fn at(second: u64) -> Key {
+// Truck 7 at a second.
+pub(crate) fn at(second: u64) -> Key {
     Key { hi: 7, lo: second }
 }
 
-/// Enters a load by console 0 in one turn, which is all that a leaf with room takes.
-pub fn enter(index: &mut Loads, second: u64, value: u64) {
+// Enters a load by console 0 in one turn, which is all that a leaf with room takes.
+pub(crate) fn enter(index: &mut Loads, second: u64, value: u64) {
     index.begin(0, ENTER, at(second), value);
     index.turn(0);
 }
