@@ -1,6 +1,6 @@
 -- The children of an inner page, one by one.
-use Rattle.std.proofs.Common.{◌≡◌, ℕ, zero, suc, ◌+◌, ◌-◌, ◌<◌, ◌≤◌, Bool, true, false, cond, List, [], ◌∷◌, length, take, drop, Some, None, Option, refl, ap, ◌∙◌, arith}
-use Rattle.std.proofs.lemmas.List.{at_drop_more, at_drop_all, take_all}
+use Rattle.std.proofs.Common.{◌≡◌, ℕ, zero, suc, ◌+◌, ◌-◌, ◌<◌, Bool, true, false, cond, List, [], ◌∷◌, length, take, drop, Some, None, Option, sym, refl, ap, ◌∙◌, arith}
+use Rattle.std.proofs.lemmas.List.{take_all}
 use Rattle.std.proofs.lemmas.Bool.{and_parts, both_ways}
 use Rattle.page.specs.declared.entries.Entry.{Entry}
 use Rattle.model.specs.States.{State, view, readable}
@@ -9,17 +9,6 @@ use Rattle.model.specs.Upkeep.{is_child, wrong_child, child_at}
 -- what stands for an entry that is not there
 abbrev pub no_entry : Entry
 no_entry = record { key = record { hi = 0; lo = 0 }; value = 0 }
-
--- one child more
-pub wrong_more : (s : State) (level : ℕ) (es : List Entry) (i : ℕ) → i < length es
-    → wrong_child s level (drop i es)
-    ≡ cond (is_child s.fill level (view s (child_at es i))) (wrong_child s level (drop (i + 1) es))
-    (Some (child_at es i))
-wrong_more s level es i lt = at_drop_more (wrong_child s level) es i no_entry lt
-
-pub wrong_none : (s : State) (level : ℕ) (es : List Entry) (i : ℕ) → length es ≤ i
-    → wrong_child s level (drop i es) ≡ None
-wrong_none s level es i h = at_drop_all (wrong_child s level) es i h
 
 -- where the first is a child, and none of the others is wrong
 all_right : (right : Bool) (rest : Option ℕ) (c : ℕ) → cond right rest (Some c) ≡ None → (right ≡ true) × (rest ≡ None)
@@ -63,3 +52,11 @@ pub none_unreadable : (s : State) (level : ℕ) {slice es : List Entry} → slic
     → (i : ℕ) → i < length slice → readable s.fill (view s (child_at slice i)) ≡ false → ⊥
 none_unreadable s level {slice} same none i lt unread =
     both_ways _ unread (child_readable s level slice (ap (wrong_child s level) same ∙ none) i lt)
+
+-- and none of those behind the first
+pub rest_unreadable : (s : State) (level : ℕ) {slice es : List Entry} → slice ≡ es → wrong_child s level es ≡ None
+    → (i : ℕ) → i < length (take (length slice - 1) (drop 1 slice))
+    → readable s.fill (view s (child_at (take (length slice - 1) (drop 1 slice)) i)) ≡ false → ⊥
+rest_unreadable s level {slice} {es} same none i lt unread =
+    none_unreadable s level {slice = es} refl none (i + 1) (omega (arith, rest_long same))
+    (ap (λ p. readable s.fill (view s p)) (sym (in_rest same i)) ∙ unread)

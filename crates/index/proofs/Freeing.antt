@@ -81,10 +81,6 @@ unreached_now : (s t : State) (n : ℕ) → is_unreached s n ≡ true → length
     → is_there t.words n ≡ true
 unreached_now s t n unreached long = ap (λ l. leb (64 * n + 64) l) long ∙ unreached_there s n unreached
 
--- none so far
-pub freed_none : (s : State) → Freed s 0 s 0
-freed_none s = record { few = omega arith; count = refl; given = refl; long = refl }
-
 -- a page that is reached is passed over
 pub freed_kept : (s t : State) (n f : ℕ) → is_unreached s n ≡ false → Freed s n t f → Freed s (n + 1) t f
 freed_kept s t n f reached so =
@@ -111,7 +107,3 @@ freed_one s t u n f unreached so given =
       long = ap (λ (x : State). length x.words) given
           ∙ (length_give_back t n (unreached_now s t n unreached so.long) ∙ so.long);
     }
-
--- so the store still has it
-pub freed_there : (s t : State) (n f : ℕ) → is_unreached s n ≡ true → Freed s n t f → is_there t.words n ≡ true
-freed_there s t n f unreached so = unreached_now s t n unreached so.long

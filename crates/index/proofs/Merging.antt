@@ -1,6 +1,7 @@
 -- What a merge asks of the pages that it writes.
 use Rattle.std.proofs.Common.{◌≡◌, ℕ, ◌+◌, ◌<◌, ◌≤◌, true, leb, List, length, Some, None, ap, ◌∙◌, arith}
 use Rattle.std.proofs.lemmas.Bool.{and_parts, leb-true}
+use Rattle.std.proofs.lemmas.Bool.Decides.{nat_tests}
 use Rattle.std.proofs.lemmas.List.{length-append}
 use Rattle.page.specs.declared.entries.Entry.{Entry}
 use Rattle.page.specs.Pages.{Page, is_there}
@@ -21,15 +22,24 @@ readable_few fill x held =
     let few = (and_parts (leb x.level top_level) _ level).1 in
     leb-true (length x.entries) fill (and_parts _ (is_fed x) few).0
 
--- two pages, as they were read: the left one is written, and then the right one
-pub both_written : (s : State) (left right : ℕ) {x y : Page} → x ≡ view s left → y ≡ view s right
-    → {t u : State} {a b : Page} → a ≡ joined x y → b ≡ gone_into left y → t ≡ write left a s → u ≡ write right b t
-    → u ≡ children_merged left right s
-both_written s left right first second whole gone saved saved2 =
-    let taken = whole ∙ (λ i. joined (first i) (second i)) in
-    let empty = gone ∙ (λ i. gone_into left (second i)) in
-    let written = saved ∙ (λ i. write left (taken i) s) in
-    saved2 ∙ (λ i. write right (empty i) (written i))
+-- two pages of a pair, as they were read
+module _ (s : State) (left right : ℕ) {x y : Page} (first : x ≡ view s left) (second : y ≡ view s right) where
+  -- they have room in one
+  pub children_fit : s.fill ≤ 18 → readable s.fill (view s left) ≡ true → readable s.fill (view s right) ≡ true
+      → is_small s.fill (view s left) (view s right) ≡ true → length x.entries + length y.entries ≤ 18
+  children_fit few held held2 small =
+      let lefts = ap (λ (z : Page). length z.entries) first in
+      let rights = ap (λ (z : Page). length z.entries) second in
+      grind (arith, nat_tests, readable_few)
+
+  -- the left one is written, and then the right one
+  pub both_written : {t u : State} {a b : Page} → a ≡ joined x y → b ≡ gone_into left y → t ≡ write left a s
+      → u ≡ write right b t → u ≡ children_merged left right s
+  both_written whole gone saved saved2 =
+      let taken = whole ∙ (λ i. joined (first i) (second i)) in
+      let empty = gone ∙ (λ i. gone_into left (second i)) in
+      let written = saved ∙ (λ i. write left (taken i) s) in
+      saved2 ∙ (λ i. write right (empty i) (written i))
 
 module _ (s : State) (es : List Entry) (i : ℕ) (found : merge_pair s es ≡ Some i) where
   -- the pair that merge finds stands within the entries

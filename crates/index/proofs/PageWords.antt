@@ -1,10 +1,9 @@
 -- What words 0 and 3 of a page tell.
-use Rattle.std.proofs.Common.{◌≡◌, ℕ, ◌+◌, ◌*◌, true, eqb, get_or, sym, ap, ◌∙◌, arith}
+use Rattle.std.proofs.Common.{◌≡◌, ℕ, ◌+◌, ◌*◌, true, get_or, ap, ◌∙◌, arith}
 use Rattle.std.proofs.lemmas.Bool.{cond-true}
-use Rattle.std.proofs.lemmas.Bool.Decides.{nat_tests}
 use Rattle.page.specs.Pages.{state_of as state_in, Page, page_at}
 use Rattle.page.proofs.Layouts.{word_run}
-use Rattle.model.specs.States.{State, view, nowhere, is_free}
+use Rattle.model.specs.States.{State, view, nowhere}
 use Rattle.index.specs.Indexes.{is_page}
 
 -- the state of a page is in its word 0
@@ -18,11 +17,3 @@ pub link_word : (s : State) (p : ℕ) → is_page s p ≡ true → (view s p).li
 link_word s p here =
     ap (λ (x : Page). x.link) (cond-true (is_page s p) (page_at s.words p) nowhere here)
     ∙ word_run s.words p 3 (omega arith)
-
-free_word : (w : ℕ) → is_free (state_in w) ≡ eqb w 0
-free_word w = grind (arith, nat_tests)
-
--- a page is free where word 0 is 0
-pub free_at : (s : State) (p v : ℕ) → is_page s p ≡ true → v ≡ get_or s.words (64 * p) 0
-    → is_free (view s p).state ≡ eqb v 0
-free_at s p v here e = ap is_free (state_word_lem s p here ∙ ap state_in (sym e)) ∙ free_word v

@@ -1,5 +1,5 @@
 //! The jobs of the 32 consoles.
-ghost use Rattle.std.specs.Prelude.{◌≡◌, length, replicate, None, slice_index_or, slice_set};
+ghost use Rattle.std.specs.Prelude.{◌≡◌, length, None, slice_index_or, slice_set};
 ghost use Rattle.model.specs.States.{no_jobs};
 ghost use Rattle.index.specs.Jobs.{is_on, sent_to};
 

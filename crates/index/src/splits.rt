@@ -1,5 +1,5 @@
 //! Taking a free page, and the split of a full one.
-ghost use Rattle.std.specs.Prelude.{◌≡◌, true, length, Ok, Err, MatchResult};
+ghost use Rattle.std.specs.Prelude.{◌≡◌, true, Ok, Err, MatchResult};
 ghost use Rattle.page.specs.Buffers.{page_of};
 ghost use Rattle.page.specs.Entries.{list_of};
 ghost use Rattle.page.specs.Pages.{is_there};
@@ -65,13 +65,11 @@ impl<S: Store, O: Order> Index<S, O> {
 
     // Splits a full page, if there is a free page for it.
     pub(crate) fn split_full(&mut self, page: u64, buf: PageBuf) -> Answer
-        requires read { page_of buf ≡ view (state_of S.words self.old) page }
-        requires there { is_there (S.words self.old.store) page ≡ true }
-        ensures answer { result ≡ (split_full page (view (state_of S.words self.old) page)
-            (state_of S.words self.old)).answer }
+        requires { is_there (S.words self.old.store) page ≡ true }
+        ensures answer { result
+            ≡ (split_full page (page_of buf) (state_of S.words self.old)).answer }
         ensures state { state_of S.words self.new
-            ≡ (split_full page (view (state_of S.words self.old) page)
-            (state_of S.words self.old)).after }
+            ≡ (split_full page (page_of buf) (state_of S.words self.old)).after }
     {
         let (new, next) = self.free_page()?;
         let root = self.root();

@@ -15,7 +15,7 @@ use store::Store;
 // Page 0 and the root.
 const LEAST_PAGES: u64 = 2;
 
-const LEAST_WORDS: u64 = 128;
+const LEAST_WORDS: u64 = LEAST_PAGES * PAGE_WORDS as u64;
 
 const LEAST_FILL: u64 = 4;
 

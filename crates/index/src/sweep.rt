@@ -1,6 +1,5 @@
 //! Sweep: the gone pages that nothing leads to any more are free again.
 ghost use Rattle.std.specs.Prelude.{◌≡◌, true, length};
-ghost use Rattle.page.specs.Buffers.{page_of};
 ghost use Rattle.page.specs.Pages.{is_there};
 ghost use Rattle.model.specs.States.{view, is_gone};
 ghost use Rattle.model.specs.Upkeep.{free_page_to, give_back, give_back_all, points_to, sweep};

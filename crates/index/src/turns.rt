@@ -4,7 +4,7 @@ ghost use Rattle.page.specs.Buffers.{page_of};
 ghost use Rattle.page.specs.Entries.{list_of};
 ghost use Rattle.page.specs.Pages.{is_there};
 ghost use Rattle.model.specs.Entries.{find, insert, remove};
-ghost use Rattle.model.specs.States.{view, with_job};
+ghost use Rattle.model.specs.States.{with_job};
 ghost use Rattle.model.specs.Turns.{turn, turn_state, is_past, child_of, job_at};
 ghost use Rattle.model.specs.declared.answers.Done.TheVariants.{Moved, Entered, Struck};
 ghost use Rattle.index.specs.Jobs.{sent_to};
@@ -150,7 +150,6 @@ impl<S: Store, O: Order> Index<S, O> {
     // and page are three arguments and no struct: whoever takes them uses each by itself.
     fn turn_on(&mut self, console: u64, job: Job, page: PageBuf) -> Answer
         requires job { job_at (state_of S.words self.old) console ≡ Some job }
-        requires read { page_of page ≡ view (state_of S.words self.old) job.page }
         requires there { is_there (S.words self.old.store) job.page ≡ true }
         ensures answer { result
             ≡ (turn_state (rule_of O.keyed O.compared) console job (page_of page) page.state

@@ -1,7 +1,7 @@
 //! Place keys, a name of 1 to 16 printed bytes, and their order, in which case does not count.
 ghost use Rattle.std.specs.Prelude.{◌≡◌, ◌-◌, ◌≤◌, ◌++◌, true, length, map, take, replicate, Some, codes};
 ghost use Rattle.order.specs.Places.{text, unpadded, all_printed, is_name, is_place, folded, places, place_laws};
-ghost use Rattle.order.specs.Places.{name_bytes, key_of_name, NamesAndKeys};
+ghost use Rattle.order.specs.Places.{key_of_name, NamesAndKeys};
 
 use crate::keys::Key;
 use crate::orders::Order;

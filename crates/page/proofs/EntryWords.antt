@@ -1,9 +1,7 @@
 -- The words of a page, read and laid down entry by entry.
-use Rattle.std.proofs.Common.{◌≡◌, ℕ, zero, suc, ◌+◌, ◌-◌, ◌*◌, ◌/◌, ◌<◌, ◌≤◌, Bool, cond, eqb, List, [], ◌∷◌, ◌++◌, length, get_or, map, take, drop, replicate, Some, None, Option, sym, refl, ap, ◌∙◌, arith}
+use Rattle.std.proofs.Common.{◌≡◌, ℕ, zero, suc, ◌+◌, ◌-◌, ◌*◌, ◌/◌, ◌<◌, ◌≤◌, cond, eqb, List, [], ◌∷◌, ◌++◌, length, get_or, map, take, drop, replicate, Some, None, Option, sym, refl, ap, ◌∙◌, arith}
 use borrow.Rule.Slice.PartMut.{put_mid}
 use Rattle.std.proofs.lemmas.List.{append_assoc, length-append, length-take-le, get_or-drop, length-drop, take_all, take_more, get_or-take, drop-drop, take_at, drop_at, drop-replicate}
-use Rattle.std.proofs.lemmas.Bool.Decides.{nat_tests}
-use Rattle.std.proofs.lemmas.Grind.{common_steps}
 use Rattle.order.specs.declared.keys.Key.{Key}
 use Rattle.std.specs.Option.{UnwrapsOrElse}
 use Rattle.std.specs.Simd.{first_chunks}
@@ -11,7 +9,6 @@ use Rattle.store.specs.Overlay.{overlay}
 use Rattle.store.proofs.Overlays.{overlay_append, overlay_part}
 use Rattle.page.specs.declared.entries.Entry.{Entry}
 use Rattle.page.specs.declared.pages.PageState.{PageState}
-use Rattle.page.specs.Entries.{has_room}
 use Rattle.page.specs.Pages.{Page, key_from, state_of, state_word, bound_from, bound_key, bound_words, entries_from, entry_words, start_first, page_from, words_of}
 use Rattle.page.proofs.Layouts.{length_bound, length_entries}
 
@@ -34,12 +31,6 @@ map_entry_of (suc n) (suc k) ws h =
 pub length_read : (n : ℕ) (ws : List ℕ) → length (entries_from n ws) ≡ n
 length_read zero ws = refl
 length_read (suc n) ws = ap suc (length_read n (drop 3 ws))
-
--- the next entry is read behind the others, for which there is room
-pub entry_read : (xs : List (List ℕ)) (i : ℕ) (d : List ℕ) (es fs : List Entry) (room : Bool) → i < length xs
-    → length xs ≤ 18 → es ≡ map entry_of (take i xs) → room ≡ has_room es 1 → fs ≡ cond room (es ++ entry_of (get_or xs i d) ∷ []) es
-    → fs ≡ map entry_of (take (i + 1) xs)
-entry_read xs i d es fs room within few before said pushed = grind (arith, nat_tests, common_steps)
 
 -- as many are read as are asked for
 pub entries_read : (ws : List ℕ) (chunks : List (List ℕ)) (n i : ℕ) (es : List Entry) → length ws ≡ 54 → n ≤ 18

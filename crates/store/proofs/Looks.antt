@@ -12,10 +12,6 @@ within_is words at h = rw (lt-ltb at (length words) h) refl
 pub past_is : (words : List ℕ) (at : ℕ) → length words ≤ at → word_at words at ≡ None
 past_is words at h = rw (le-ltb at (length words) h) refl
 
--- a read that gives none was at or beyond the length
-pub none_past : (words : List ℕ) (at : ℕ) → None ≡ word_at words at → length words ≤ at
-none_past words at e = grind (arith, nat_tests)
-
 -- a read that gives a word was within the length, and the word stands there
 pub some_word : (words : List ℕ) (at x : ℕ) → Some x ≡ word_at words at → (at < length words) × (x ≡ get_or words at 0)
 some_word words at x e = grind (arith, nat_tests)

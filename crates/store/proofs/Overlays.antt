@@ -11,11 +11,6 @@ pub overlay_none : (w : List ℕ) (at : ℕ) → overlay w at [] ≡ w
 unfolding overlay
 overlay_none w at = same_lists _ _ (search (rules, places)) (λ k d within. grind (arith, places))
 
--- a run as long as the list takes its place
-pub overlay_all : (w xs : List ℕ) → length xs ≡ length w → overlay w 0 xs ≡ xs
-unfolding overlay
-overlay_all w xs e = same_lists _ _ (search (rules, places)) (λ k d within. grind (arith, places))
-
 -- the length stays
 pub length_overlay : (w : List ℕ) (at : ℕ) (xs : List ℕ) → at + length xs ≤ length w
     → length (overlay w at xs) ≡ length w

@@ -153,11 +153,6 @@ words_none bytes = refl
 pub form_from_lines : (bytes : List ℕ) (n : ℕ) → 21 * n ≡ length bytes → LinesTo bytes n → InForm bytes
 form_from_lines bytes n whole lines i h = lines i (omega arith)
 
--- a line that is not one is in no text in form
-pub fault_in_form : (bytes : List ℕ) (i : ℕ) → 21 * i < length bytes → is_line (line_at bytes i) ≡ false
-    → InForm bytes → ⊥
-fault_in_form bytes i h fault form = false≢true (sym fault ∙ form i h)
-
 -- FROM WORDS TO TEXT AND BACK
 
 -- each word takes 21 bytes of its text

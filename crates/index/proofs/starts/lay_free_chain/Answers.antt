@@ -1,7 +1,6 @@
-use Rattle.std.proofs.Common.{◌≡◌, ◌+◌, ◌-◌, ◌*◌, ◌≤◌, length, sym, ap, ◌∙◌, arith}
-use Rattle.std.specs.List.{range_with_len}
+use Rattle.std.proofs.Common.{◌+◌, ◌-◌, ◌*◌, ◌≤◌, length, sym, ap, ◌∙◌, arith}
 use Rattle.page.specs.Pages.{put}
-use Rattle.model.specs.Starts.{free_chain, next_of}
+use Rattle.model.specs.Starts.{next_of}
 use Rattle.model.specs.Upkeep.{free_page_to}
 use Rattle.index.proofs.FreeChains.{put_there, length_bare, chain_more}
 use Rattle.index.proofs.starts.lay_free_chain.Goals as goal
@@ -19,9 +18,3 @@ loop-page-preserved g c =
       written ∙ ap (λ v. put v p (free_page_to (next_of n p))) c.loop-page.invariant.1
           ∙ sym (chain_more n 2 (p - 2) (p + 1 - 2) p before (omega arith) (omega arith)),
     )
-
-pub returns : goal.returns
-returns g c =
-    let before = g.S.Store.words c.args.store.now in
-    let last : c.loop-page.page ≡ c.args.pages = omega arith in
-    c.loop-page.invariant.1 ∙ ap (λ p. free_chain c.args.pages (range_with_len 2 (p - 2)) before) last

@@ -2,7 +2,7 @@
 use Rattle.std.proofs.Common.{refl}
 use Rattle.store.specs.Overlay.{run}
 use Rattle.store.proofs.Looks.{some_word}
-use Rattle.page.proofs.PageRuns.{word_loaded, page_loaded}
+use Rattle.page.proofs.PageRuns.{word_loaded}
 use Rattle.page.proofs.access.load.Goals as goal
 
 pub loop-i-init : goal.loop-i-init
@@ -13,8 +13,3 @@ pub loop-i-preserved : goal.loop-i-preserved
 loop-i-preserved g c =
     word_loaded _ _ _ _ _ _ c.in_ok-place.ensures c.loop-i-test.true c.loop-i.invariant
     (some_word _ _ _ c.in_ok-word.ensures).1
-
-pub returns : goal.returns
-returns g c =
-    let place = c.in_ok-place.ensures in
-    (place.0, page_loaded _ _ _ _ _ place c.loop-i-test.false c.loop-i.auto.i-end c.loop-i.invariant)

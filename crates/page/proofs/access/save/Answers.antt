@@ -12,10 +12,6 @@ loop-i-preserved g c =
     word_saved _ _ _ _ _ _ _ c.in-Some.ensures c.told-from c.loop-i-test.true c.loop-i.invariant
     c.write.ensures.written
 
-pub returns-clause-saved : goal.returns-clause-saved
-returns-clause-saved g c =
-    page_saved _ _ _ _ _ _ c.in-Some.ensures c.told-from c.loop-i-test.false c.loop-i.invariant
-
 pub returns-clause-long : goal.returns-clause-long
 returns-clause-long g c =
     page_kept _ _ c.args.from.now _ _ c.in-Some.ensures c.told-from

@@ -1,5 +1,5 @@
 -- A page is left at the first hit, unmarked; one without a hit is marked.
-use Rattle.std.proofs.Common.{◌≡◌, sym, true, false, get_or, None, arith, below_more}
+use Rattle.std.proofs.Common.{◌≡◌, sym, true, false, get_or, None, arith}
 use Rattle.std.proofs.lemmas.Bool.Decides.{nat_tests}
 use Rattle.model.specs.States.{view, is_gone}
 use Rattle.index.specs.Jobs.{is_on}
@@ -26,14 +26,6 @@ pages-preserved-then-is_on g c =
     let i = c.loop-console.console in
     let on : is_on p (get_or s.jobs i None) ≡ true = grind (arith, nat_tests) in
     marking_kept s c.pages.marked p c.pages.invariant (stood_on s p (any_hit p s.jobs i on))
-
-pub loop-console-preserved : goal.loop-console-preserved
-loop-console-preserved g c =
-    let p = c.pages.page in
-    let i = c.loop-console.console in
-    let jobs = c.args.self.now.consoles.jobs in
-    let off : is_on p (get_or jobs i None) ≡ false = grind (arith, nat_tests) in
-    below_more (λ k. is_on p (get_or jobs k None) ≡ false) i c.loop-console.invariant off
 
 pub pages-preserved-then-points_to : goal.pages-preserved-then-points_to
 pages-preserved-then-points_to g c =
