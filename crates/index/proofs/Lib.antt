@@ -14,3 +14,5 @@ pub mod Merging
 pub mod Raising
 pub mod Marks
 pub mod Freeing
+-- the public calls
+pub mod Refusals

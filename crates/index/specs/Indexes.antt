@@ -1,8 +1,9 @@
 -- The state that an index holds.
-use Rattle.std.specs.Prelude.{ℕ, Bool, ◌&&◌, List, nat_lt}
+use Rattle.std.specs.Prelude.{◌≡◌, ℕ, Bool, ◌&&◌, List, nat_lt, MatchResult}
 use Rattle.order.specs.declared.keys.Key.{Key}
 use Rattle.std.specs.declared.cmp.Ordering.{Ordering}
 use Rattle.page.specs.Pages.{is_there}
+use Rattle.model.specs.Answers.{Answer}
 use Rattle.model.specs.Entries.{KeyOrder}
 use Rattle.model.specs.States.{State}
 use Rattle.index.specs.declared.index.Index.{Index}
@@ -18,3 +19,7 @@ is_page s p = nat_lt 0 p && (nat_lt p s.pages && is_there s.words p)
 -- an order by its two answers
 abbrev pub rule_of : (Key → Bool) → (Key → Key → Ordering) → KeyOrder
 rule_of keyed compared = record { keyed = keyed; compared = compared }
+
+-- a refusal leaves the store itself as it was, with all that it holds beside its words
+abbrev pub KeptIfRefused : {S : Type 0} → Answer → S → S → Type 0
+KeptIfRefused answer before after = MatchResult answer (λ _. Unit {0}) (λ _. after ≡ before)

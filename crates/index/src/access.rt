@@ -1,5 +1,5 @@
 //! How the calls reach the pages of an index.
-ghost use Rattle.std.specs.Prelude.{◌≡◌, true, length};
+ghost use Rattle.std.specs.Prelude.{◌≡◌, ◌+◌, ◌*◌, ◌<◌, true, length, slice_index};
 ghost use Rattle.order.specs.Refusals.{JustWhere};
 ghost use Rattle.page.specs.Buffers.{page_of};
 ghost use Rattle.page.specs.Pages.{is_there};
@@ -63,26 +63,29 @@ impl<S: Store, O: Order> Index<S, O> {
         is_readable(&found, self.fill).then_some(found)
     }
 
-    // What a page is used for. Only its word 0 is read.
+    // One word of a page, which alone is read.
+    fn word(&self, page: u64, at: u64) -> Option<u64>
+        requires { at < 64 }
+        ensures { JustWhere (is_page (state_of S.words self.now) page)
+            (λ w. w ≡ slice_index (S.words self.now.store) (64 * page + at)) result }
+    {
+        self.has(page)
+            .then(|| read_word(&self.store, PAGE_WORDS as u64 * page + at))
+    }
+
+    // What a page is used for: its word 0.
     pub(crate) fn state_at(&self, page: u64) -> PageState
         ensures { result ≡ (view (state_of S.words self.now) page).state }
     {
-        if self.has(page) {
-            PageState::from(read_word(&self.store, PAGE_WORDS as u64 * page))
-        } else {
-            PageState::Damaged
-        }
+        self.word(page, 0)
+            .map_or(PageState::Damaged, PageState::from)
     }
 
-    // The page that a page is linked to. Only its word 3 is read.
+    // The page that a page is linked to: its word 3. 0, which is linked to none, where there is no such page.
     pub(crate) fn link_at(&self, page: u64) -> u64
         ensures { result ≡ (view (state_of S.words self.now) page).link }
     {
-        if self.has(page) {
-            read_word(&self.store, PAGE_WORDS as u64 * page + 3)
-        } else {
-            0
-        }
+        self.word(page, 3).unwrap_or(0)
     }
 
     // Writes a page that is there. That it is, each caller shows: no type can hold it, since the store is written to.

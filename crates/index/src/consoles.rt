@@ -5,27 +5,27 @@ ghost use Rattle.index.specs.Jobs.{is_on, sent_to};
 
 use model::Job;
 
-/// How many consoles there are.
-pub const CONSOLES: usize = 32;
+// How many consoles there are.
+pub(crate) const CONSOLES: usize = 32;
 
-/// The console table: each console has a job or none.
+// The console table: each console has a job or none.
 // 32 of them in fixed memory, as the project asks.
 #[derive(Clone, Copy, Debug, PartialEq, Eq)]
-pub struct Consoles {
+pub(crate) struct Consoles {
     jobs: [Option<Job>; CONSOLES],
     ghost full: { length jobs ≡ 32 },
 }
 
-/// Whether a console's job, if it has one, stands on a page.
-pub fn is_on(job: Option<Job>, page: u64) -> bool
+// Whether a console's job, if it has one, stands on a page.
+pub(crate) fn is_on(job: Option<Job>, page: u64) -> bool
     ensures { result ≡ is_on page job }
 {
     job.is_some_and(|job| job.page == page)
 }
 
 impl Consoles {
-    /// All consoles idle.
-    pub fn new() -> Consoles
+    // All consoles idle.
+    pub(crate) fn new() -> Consoles
         ensures { result.jobs ≡ no_jobs }
     {
         Consoles {
@@ -33,9 +33,9 @@ impl Consoles {
         }
     }
 
-    /// Leaves every console idle.
+    // Leaves every console idle.
     // A loop over the consoles with their numbers: the project fixes this shape for the table.
-    pub fn clear(&mut self)
+    pub(crate) fn clear(&mut self)
         ensures { self.new.jobs ≡ no_jobs }
     {
         for (_console, job) in self.jobs.iter_mut().enumerate() {
@@ -43,15 +43,22 @@ impl Consoles {
         }
     }
 
-    /// The job of a console, `None` for an idle one and for a number that is no console's.
-    pub fn job(&self, console: u64) -> Option<Job>
+    // The jobs of all consoles, in order.
+    pub(crate) fn jobs(&self) -> &[Option<Job>; CONSOLES]
+        ensures { result.now ≡ self.now.jobs }
+    {
+        &self.jobs
+    }
+
+    // The job of a console, `None` for an idle one and for a number that is no console's.
+    pub(crate) fn job(&self, console: u64) -> Option<Job>
         ensures { result ≡ slice_index_or self.now.jobs console None }
     {
         self.jobs.get(console as usize).copied().flatten()
     }
 
-    /// Gives a console a job, or none; a number that is no console's changes nothing.
-    pub fn assign(&mut self, console: u64, job: Option<Job>)
+    // Gives a console a job, or none; a number that is no console's changes nothing.
+    pub(crate) fn assign(&mut self, console: u64, job: Option<Job>)
         ensures { self.new.jobs ≡ slice_set self.old.jobs console job }
     {
         // by an index: what `get_mut` lends out of a struct with a ghost field, the proof loses sight of
@@ -60,8 +67,8 @@ impl Consoles {
         }
     }
 
-    /// Sends a console's job to another page; an idle console stays idle.
-    pub fn send(&mut self, console: u64, page: u64)
+    // Sends a console's job to another page; an idle console stays idle.
+    pub(crate) fn send(&mut self, console: u64, page: u64)
         ensures { self.new.jobs
             ≡ slice_set self.old.jobs console (sent_to page (slice_index_or self.old.jobs console None)) }
     {

@@ -12,7 +12,8 @@ use store::Store;
 impl<S: Store, O: Order> Index<S, O> {
     /// An index over a store that is not made yet: it has no pages and no root, and its consoles are idle.
     pub fn new(store: S) -> Index<S, O>
-        ensures { state_of S.words result ≡ unmade (S.words store) }
+        ensures state { state_of S.words result ≡ unmade (S.words store) }
+        ensures kept { result.store ≡ store }
     {
         Index {
             store,

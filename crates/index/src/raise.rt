@@ -5,7 +5,7 @@ ghost use Rattle.page.specs.Buffers.{page_of};
 ghost use Rattle.page.specs.Pages.{is_there};
 ghost use Rattle.model.specs.States.{view, write, write_head};
 ghost use Rattle.model.specs.Upkeep.{can_rise, raise, root_over};
-ghost use Rattle.index.specs.Indexes.{state_of};
+ghost use Rattle.index.specs.Indexes.{state_of, KeptIfRefused};
 
 use crate::access::TOP_LEVEL;
 use crate::index::Index;
@@ -33,7 +33,7 @@ fn root_over(root: u64, old: &PageBuf) -> PageBuf
 }
 
 impl<S: Store, O: Order> Index<S, O> {
-    // A live page over which there may be another level.
+    // A live page over which there may be another level: a test of its own, beside `inner_page`.
     fn page_below_top(&self, page: u64) -> Option<PageBuf>
         ensures { JustWhere (can_rise self.now.fill (view (state_of S.words self.now) page))
             (λ b. page_of b ≡ view (state_of S.words self.now) page) result }
@@ -57,6 +57,7 @@ impl<S: Store, O: Order> Index<S, O> {
     pub(crate) fn raise_step(&mut self) -> Answer
         ensures answer { result ≡ (raise (state_of S.words self.old)).answer }
         ensures state { state_of S.words self.new ≡ (raise (state_of S.words self.old)).after }
+        ensures kept { KeptIfRefused result self.old.store self.new.store }
     {
         let root = self.root();
         let old = self.page_below_top(root).ok_or(Refusal::Unreadable(root))?;

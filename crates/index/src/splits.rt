@@ -5,7 +5,7 @@ ghost use Rattle.page.specs.Entries.{list_of};
 ghost use Rattle.page.specs.Pages.{is_there};
 ghost use Rattle.model.specs.States.{view, free_page};
 ghost use Rattle.model.specs.Splits.{first_key, upper_page, relinked, shortened, split_full};
-ghost use Rattle.index.specs.Indexes.{state_of};
+ghost use Rattle.index.specs.Indexes.{state_of, KeptIfRefused};
 
 use crate::index::Index;
 use model::{Answer, Done, Refusal};
@@ -70,6 +70,7 @@ impl<S: Store, O: Order> Index<S, O> {
             ≡ (split_full page (page_of buf) (state_of S.words self.old)).answer }
         ensures state { state_of S.words self.new
             ≡ (split_full page (page_of buf) (state_of S.words self.old)).after }
+        ensures kept { KeptIfRefused result self.old.store self.new.store }
     {
         let (new, next) = self.free_page()?;
         let root = self.root();

@@ -1,15 +1,19 @@
 //! How an index is made: on a store that has none, and on one that has.
-ghost use Rattle.std.specs.Prelude.{◌≡◌, ◌-◌, ◌*◌, ◌≤◌, length};
+ghost use Rattle.std.specs.Prelude.{◌≡◌, ◌-◌, ◌*◌, ◌<◌, ◌≤◌, length, MatchResult};
 ghost use Rattle.std.specs.List.{range_with_len};
 ghost use Rattle.page.specs.Buffers.{page_of};
 ghost use Rattle.model.specs.Starts.{format, attach, made, format_words, free_chain, empty_leaf, next_of, is_fill, pages_in};
 ghost use Rattle.model.specs.Upkeep.{free_page_to};
-ghost use Rattle.index.specs.Indexes.{state_of};
+ghost use Rattle.model.specs.declared.answers.Refusal.TheVariants.{StoreTooSmall};
+ghost use Rattle.index.specs.Indexes.{state_of, KeptIfRefused};
 
 use crate::index::{Index, MOST_PAGES};
 use model::{Answer, Done, Refusal};
 use order::Order;
-use page::{HEAD_MARK, HeadBuf, PAGE_WORDS, PageBuf, PageState, read_word, write_head, write_page};
+use page::{
+    HEAD_MARK, HeadBuf, MOST_ENTRIES, PAGE_WORDS, PageBuf, PageState, read_word, write_head,
+    write_page,
+};
 use store::Store;
 
 // Page 0 and the root.
@@ -19,7 +23,7 @@ const LEAST_WORDS: u64 = LEAST_PAGES * PAGE_WORDS as u64;
 
 const LEAST_FILL: u64 = 4;
 
-const MOST_FILL: u64 = 18;
+const MOST_FILL: u64 = MOST_ENTRIES as u64;
 
 const FIRST_ROOT: u64 = 1;
 
@@ -31,11 +35,16 @@ fn is_fill(fill: u64) -> bool
     (LEAST_FILL..=MOST_FILL).contains(&fill)
 }
 
-// The pages of a store, of which an index takes no more than it may have.
-fn pages_in<S: Store>(store: &S) -> u64
-    ensures { result ≡ pages_in (S.words store.now) }
+// The pages of a store that is large enough, of which an index takes no more than it may have.
+fn pages_in<S: Store>(store: &S) -> Result<u64, Refusal>
+    ensures { MatchResult result
+        (λ pages. (128 ≤ length (S.words store.now)) × (pages ≡ pages_in (S.words store.now)))
+        (λ refusal. (length (S.words store.now) < 128) × (refusal ≡ StoreTooSmall)) }
 {
-    (store.length() / PAGE_WORDS as u64).min(MOST_PAGES as u64)
+    if store.length() < LEAST_WORDS {
+        return Err(Refusal::StoreTooSmall);
+    }
+    Ok((store.length() / PAGE_WORDS as u64).min(MOST_PAGES as u64))
 }
 
 // The page after one, or 0 after the last.
@@ -95,11 +104,13 @@ fn lay_pages<S: Store>(store: &mut S, pages: u64, fill: u64)
 }
 
 impl<S: Store, O: Order> Index<S, O> {
-    // Takes the copies of a head, and leaves every console idle. That they are in range its caller tested.
+    // Takes the copies of a head, and leaves every console idle. That they are in range its caller tested. Two numbers and
+    // no struct: the index itself is what holds them, with these facts.
     fn start(&mut self, pages: u64, fill: u64)
         requires few { fill ≤ 18 }
         requires bounded { pages ≤ 4096 }
-        ensures { state_of S.words self.new ≡ made pages fill (S.words self.old.store) }
+        ensures state { state_of S.words self.new ≡ made pages fill (S.words self.old.store) }
+        ensures kept { self.new.store ≡ self.old.store }
     {
         self.pages = pages;
         self.fill = fill;
@@ -111,14 +122,12 @@ impl<S: Store, O: Order> Index<S, O> {
         ensures answer { result ≡ (format fill (state_of S.words self.old)).answer }
         ensures state { state_of S.words self.new
             ≡ (format fill (state_of S.words self.old)).after }
+        ensures kept { KeptIfRefused result self.old.store self.new.store }
     {
-        if self.store.length() < LEAST_WORDS {
-            return Err(Refusal::StoreTooSmall);
-        }
+        let pages = pages_in(&self.store)?;
         if !is_fill(fill) {
             return Err(Refusal::NoFill);
         }
-        let pages = pages_in(&self.store);
         lay_pages(&mut self.store, pages, fill);
         self.start(pages, fill);
         Ok(Done::Made(pages))
@@ -128,14 +137,12 @@ impl<S: Store, O: Order> Index<S, O> {
     pub(crate) fn attach_step(&mut self) -> Answer
         ensures answer { result ≡ (attach (state_of S.words self.old)).answer }
         ensures state { state_of S.words self.new ≡ (attach (state_of S.words self.old)).after }
+        ensures kept { self.new.store ≡ self.old.store }
     {
-        if self.store.length() < LEAST_WORDS {
-            return Err(Refusal::StoreTooSmall);
-        }
+        let most = pages_in(&self.store)?;
         let mark = read_word(&self.store, 0);
         let pages = read_word(&self.store, 1);
         let fill = read_word(&self.store, 2);
-        let most = pages_in(&self.store);
         if mark == HEAD_MARK && (LEAST_PAGES..=most).contains(&pages) && is_fill(fill) {
             self.start(pages, fill);
             Ok(Done::Made(pages))

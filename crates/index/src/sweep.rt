@@ -3,10 +3,10 @@ ghost use Rattle.std.specs.Prelude.{◌≡◌, true, length};
 ghost use Rattle.page.specs.Pages.{is_there};
 ghost use Rattle.model.specs.States.{view, is_gone};
 ghost use Rattle.model.specs.Upkeep.{free_page_to, give_back, give_back_all, points_to, sweep};
-ghost use Rattle.index.specs.Indexes.{state_of};
+ghost use Rattle.index.specs.Indexes.{state_of, KeptIfRefused};
 ghost use Rattle.index.specs.Sweeps.{MarkedBelow, all_unreached};
 
-use crate::consoles::{CONSOLES, is_on};
+use crate::consoles::is_on;
 use crate::index::{Index, MOST_PAGES};
 use crate::starts::free_page_to;
 use model::{Answer, Done, Refusal};
@@ -40,8 +40,8 @@ impl<S: Store, O: Order> Index<S, O> {
             if !self.is_gone(page) {
                 continue 'pages;
             }
-            for console in 0..CONSOLES as u64 {
-                if is_on(self.consoles.job(console), page) {
+            for (_console, job) in self.consoles.jobs().iter().enumerate() {
+                if is_on(*job, page) {
                     continue 'pages;
                 }
             }
@@ -72,6 +72,7 @@ impl<S: Store, O: Order> Index<S, O> {
         ensures count { result ≡ length (all_unreached (state_of S.words self.old)) }
         ensures state { state_of S.words self.new
             ≡ give_back_all (all_unreached (state_of S.words self.old)) (state_of S.words self.old) }
+        ensures kept { result ≡ 0 → self.new.store ≡ self.old.store }
     {
         let mut freed = 0;
         for (page, is_marked) in marked[..self.pages as usize].iter().enumerate() {
@@ -87,6 +88,7 @@ impl<S: Store, O: Order> Index<S, O> {
     pub(crate) fn sweep_step(&mut self) -> Answer
         ensures answer { result ≡ (sweep (state_of S.words self.old)).answer }
         ensures state { state_of S.words self.new ≡ (sweep (state_of S.words self.old)).after }
+        ensures kept { KeptIfRefused result self.old.store self.new.store }
     {
         let marked = self.unreached();
         match self.free_marked(&marked) {

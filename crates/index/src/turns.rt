@@ -9,7 +9,7 @@ ghost use Rattle.model.specs.Turns.{turn, turn_state, is_past, child_of, job_at}
 ghost use Rattle.model.specs.declared.answers.Done.TheVariants.{Moved, Entered, Struck};
 ghost use Rattle.index.specs.Jobs.{sent_to};
 ghost use Rattle.index.specs.Turns.{entered, struck};
-ghost use Rattle.index.specs.Indexes.{state_of, rule_of};
+ghost use Rattle.index.specs.Indexes.{state_of, rule_of, KeptIfRefused};
 ghost use Rattle.index.specs.Searches.{PlaceFor, TakenAt};
 
 use crate::index::Index;
@@ -27,7 +27,10 @@ fn is_past<O: Order>(page: &PageBuf, key: Key) -> bool
     page.end.is_some_and(|end| O::compare(key, end).is_ge())
 }
 
-// The value that is held for a key.
+// Entries are searched from the first to the last: a page of a damaged store need not be sorted, and what is promised
+// holds on any store.
+
+// The value that is held for a key. `place_of` asks for the place, for which the library has another method.
 fn find<O: Order>(entries: &[Entry], key: Key) -> Option<u64>
     ensures { result ≡ find (rule_of O.keyed O.compared) key entries.now }
 {
@@ -38,7 +41,7 @@ fn find<O: Order>(entries: &[Entry], key: Key) -> Option<u64>
 }
 
 // The page to which an inner page sends a key: that of the last entry whose key is not after it.
-// The first entry counts whatever its key.
+// The first entry counts whatever its key. 0 where there is no entry, which no inner page that can be worked on is without.
 fn child_of<O: Order>(entries: &[Entry], key: Key) -> u64
     ensures { result ≡ child_of (rule_of O.keyed O.compared) key entries.now }
 {
@@ -73,7 +76,7 @@ fn place_of<O: Order>(entries: &[Entry], key: Key) -> Option<usize>
         .position(|held| O::compare(held.key, key).is_eq())
 }
 
-// Puts an entry in among others that leave room for it.
+// Puts an entry in among others that leave room for it: its caller tested that, by the fill.
 fn put_in<O: Order>(entries: &mut Entries, new: Entry)
     requires { length (list_of entries.old) < 18 }
     ensures { list_of entries.new
@@ -157,6 +160,7 @@ impl<S: Store, O: Order> Index<S, O> {
         ensures state { state_of S.words self.new
             ≡ (turn_state (rule_of O.keyed O.compared) console job (page_of page) page.state
             (state_of S.words self.old)).after }
+        ensures kept { KeptIfRefused result self.old.store self.new.store }
     {
         let key = job.task.key;
         let past_end = is_past::<O>(&page, key);
@@ -182,6 +186,7 @@ impl<S: Store, O: Order> Index<S, O> {
             ≡ (turn (rule_of O.keyed O.compared) console (state_of S.words self.old)).answer }
         ensures state { state_of S.words self.new
             ≡ (turn (rule_of O.keyed O.compared) console (state_of S.words self.old)).after }
+        ensures kept { KeptIfRefused result self.old.store self.new.store }
     {
         let job = self.job_of(console)?.ok_or(Refusal::Idle)?;
         let page = self.page(job.page).ok_or(Refusal::Unreadable(job.page))?;

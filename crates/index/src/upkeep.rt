@@ -9,7 +9,7 @@ ghost use Rattle.model.specs.Upkeep.{is_small, merge_pair, joined as joined_page
 ghost use Rattle.model.specs.Upkeep.{merge_at, merge};
 ghost use Rattle.model.specs.Upkeep.{entry_in, following, ends_short, short_child, post_at, post};
 ghost use Rattle.model.specs.Turns.{with_entries};
-ghost use Rattle.index.specs.Indexes.{state_of, rule_of};
+ghost use Rattle.index.specs.Indexes.{state_of, rule_of, KeptIfRefused};
 ghost use Rattle.index.specs.Parents.{ReadParent, IsParent};
 ghost use Rattle.index.specs.Pairs.{takes_next, children_merged, neighbour_entry};
 
@@ -34,7 +34,7 @@ fn takes_next(fill: u64, left: &PageBuf, next: u64, right: &PageBuf) -> bool
     left.link == next && is_small(fill, left, right)
 }
 
-// The left page with the right one's entries, neighbour and end.
+// The left page with the right one's entries, neighbour and end. That there is room its caller knows: the pages are small.
 fn joined(left: &PageBuf, right: &PageBuf) -> PageBuf
     requires { length (list_of left.now.entries) + length (list_of right.now.entries) ≤ 18 }
     ensures { page_of result ≡ joined_page (page_of left.now) (page_of right.now) }
@@ -48,7 +48,7 @@ fn joined(left: &PageBuf, right: &PageBuf) -> PageBuf
     joined
 }
 
-// The child of the entry at a place, 0 behind the last.
+// The child of the entry at a place, 0 behind the last. No `Option`: its callers ask for places that have an entry.
 fn child_at(page: &PageBuf, at: usize) -> u64
     ensures { result ≡ child_at (list_of page.now.entries) at }
 {
@@ -75,7 +75,8 @@ fn key_from(page: &PageBuf, at: usize) -> Option<Key>
         .map_or(page.end, |entry| Some(entry.key))
 }
 
-// A page with an entry more, of a child's end and right neighbour, behind the child's own.
+// A page with an entry more, of a child's end and right neighbour, behind the child's own. That there is room its caller
+// tested, by the fill.
 fn posted(page: &PageBuf, at: usize, child: &PageBuf) -> PageBuf
     requires place { at < length (list_of page.now.entries) }
     requires room { length (list_of page.now.entries) < 18 }
@@ -106,7 +107,7 @@ fn gone_into(page: u64, merged: &PageBuf) -> PageBuf
 }
 
 impl<S: Store, O: Order> Index<S, O> {
-    // A live inner page.
+    // A live inner page. Its test and that of `page_below_top` are two, each of one call.
     fn inner_page(&self, page: u64) -> Option<PageBuf>
         ensures { JustWhere (is_inner self.now.fill (view (state_of S.words self.now) page))
             (λ b. page_of b ≡ view (state_of S.words self.now) page) result }
@@ -129,12 +130,11 @@ impl<S: Store, O: Order> Index<S, O> {
         ensures { result ≡ wrong_child (state_of S.words self.now) page.now.level
             (list_of page.now.entries) }
     {
-        for entry in page.entries.as_slice() {
-            if !self.is_child(entry.value, page.level) {
-                return Some(entry.value);
-            }
-        }
-        None
+        page.entries
+            .as_slice()
+            .iter()
+            .find(|entry| !self.is_child(entry.value, page.level))
+            .map(|entry| entry.value)
     }
 
     // The first place whose child may take the next one's entries. That every child is right is asked here and below: it is
@@ -143,9 +143,7 @@ impl<S: Store, O: Order> Index<S, O> {
         requires { wrong_child (state_of S.words self.now) page.now.level (list_of page.now.entries) ≡ None }
         ensures { result ≡ merge_pair (state_of S.words self.now) (list_of page.now.entries) }
     {
-        let [first, rest @ ..] = page.entries.as_slice() else {
-            return None;
-        };
+        let (first, rest) = page.entries.as_slice().split_first()?;
         let mut left = self.page(first.value)?;
         for (at, entry) in rest.iter().enumerate() {
             let right = self.page(entry.value)?;
@@ -207,6 +205,7 @@ impl<S: Store, O: Order> Index<S, O> {
         ensures answer { result ≡ (merge page (state_of S.words self.old)).answer }
         ensures state { state_of S.words self.new
             ≡ (merge page (state_of S.words self.old)).after }
+        ensures kept { KeptIfRefused result self.old.store self.new.store }
     {
         let parent = self.parent(page)?;
         let at = self.merge_pair(&parent).ok_or(Refusal::Nothing)?;
@@ -224,7 +223,8 @@ impl<S: Store, O: Order> Index<S, O> {
         }
     }
 
-    // The first place whose child ends before what follows. A loop, since `?` leaves it where a page cannot be read.
+    // The first place whose child ends before what follows. A loop, since `position` does not tell its closure the place, by
+    // which what follows is found.
     fn short_child(&self, page: &PageBuf) -> Option<usize>
         requires { wrong_child (state_of S.words self.now) page.now.level (list_of page.now.entries) ≡ None }
         ensures { result ≡ short_child (rule_of O.keyed O.compared) (state_of S.words self.now)
@@ -250,6 +250,7 @@ impl<S: Store, O: Order> Index<S, O> {
         ensures state { state_of S.words self.new
             ≡ (post_at (rule_of O.keyed O.compared) page (page_of parent.now) (Some at)
             (state_of S.words self.old)).after }
+        ensures kept { KeptIfRefused result self.old.store self.new.store }
     {
         if parent.entries.len() as u64 >= self.fill {
             return self.split_full(page, *parent);
@@ -264,6 +265,7 @@ impl<S: Store, O: Order> Index<S, O> {
         ensures answer { result ≡ (post (rule_of O.keyed O.compared) page (state_of S.words self.old)).answer }
         ensures state { state_of S.words self.new
             ≡ (post (rule_of O.keyed O.compared) page (state_of S.words self.old)).after }
+        ensures kept { KeptIfRefused result self.old.store self.new.store }
     {
         let parent = self.parent(page)?;
         let at = self.short_child(&parent).ok_or(Refusal::Nothing)?;

@@ -1,7 +1,5 @@
 //! An index attached to words that no index wrote: page 0 is tested, and a damaged page is told when a call meets it.
-use crate::loads::{ENTER, LOOK, Loads, at};
-use index::Index;
-use store::words::WordStore;
+use crate::loads::{ENTER, LOOK, at, on};
 
 // Two pages: page 0 describes them in its first five words, page 1 is given by its first four.
 fn two_pages(head: [u64; 5], page: [u64; 4]) -> [u64; 128] {
@@ -12,11 +10,7 @@ fn two_pages(head: [u64; 5], page: [u64; 4]) -> [u64; 128] {
 }
 
 fn attach_to(head: [u64; 5]) -> (u64, u64) {
-    let mut words = two_pages(head, [0; 4]);
-    let mut index: Loads = Index::new(WordStore::new(&mut words));
-    let answer = index.attach();
-    let _ = index.into_store();
-    answer
+    on(&mut two_pages(head, [0; 4]), |index| index.attach())
 }
 
 #[test]
@@ -39,48 +33,83 @@ fn page_zero(rt: HostRuntime) {
     );
 }
 
+// Random words where the root should be. Nothing is lost by a call that meets them: the job waits.
+#[test]
+fn root_of_random_words(rt: HostRuntime) {
+    let random = [
+        11_400_714_819_323_198_485,
+        16_045_690_984_503_098_046,
+        6_364_136_223_846_793_005,
+        1_442_695_040_888_963_407,
+    ];
+    let mut words = two_pages([3, 2, 4, 0, 1], random);
+    let met = on(&mut words, |index| {
+        [
+            index.attach(),
+            index.begin(0, ENTER, at(1), 5),
+            index.turn(0),
+            index.raise(),
+            index.post(1),
+            index.merge(1),
+            index.sweep(),
+            index.withdraw(0),
+        ]
+    });
+    assert_eq!(rt;
+        met,
+        [
+            (20, 2),
+            (20, 0),
+            (8, 1),
+            (8, 1),
+            (10, 0),
+            (10, 0),
+            (11, 0),
+            (28, 1),
+        ]
+    );
+    assert_eq!(rt; &words[64..68], random.as_slice());
+}
+
 #[test]
 fn root_out_of_range(rt: HostRuntime) {
-    let mut words = two_pages([3, 2, 4, 0, 2], [1, 0, 0, 0]);
-    let mut index: Loads = Index::new(WordStore::new(&mut words));
-    let met = [
-        index.attach(),
-        index.begin(0, LOOK, at(1), 0),
-        index.turn(0),
-        index.raise(),
-        index.post(2),
-    ];
-    let _ = index.into_store();
+    let met = on(&mut two_pages([3, 2, 4, 0, 2], [1, 0, 0, 0]), |index| {
+        [
+            index.attach(),
+            index.begin(0, LOOK, at(1), 0),
+            index.turn(0),
+            index.raise(),
+            index.post(2),
+        ]
+    });
     assert_eq!(rt; met, [(20, 2), (20, 0), (8, 2), (8, 2), (10, 0)]);
 }
 
 #[test]
 fn gone_page_that_points_to_itself(rt: HostRuntime) {
-    let mut words = two_pages([3, 2, 4, 0, 1], [2, 0, 0, 1]);
-    let mut index: Loads = Index::new(WordStore::new(&mut words));
-    let met = [
-        index.attach(),
-        index.sweep(),
-        index.begin(0, LOOK, at(1), 0),
-        index.turn(0),
-        index.turn(0),
-        index.merge(1),
-    ];
-    let _ = index.into_store();
+    let met = on(&mut two_pages([3, 2, 4, 0, 1], [2, 0, 0, 1]), |index| {
+        [
+            index.attach(),
+            index.sweep(),
+            index.begin(0, LOOK, at(1), 0),
+            index.turn(0),
+            index.turn(0),
+            index.merge(1),
+        ]
+    });
     assert_eq!(rt; met, [(20, 2), (11, 0), (20, 0), (21, 1), (21, 1), (10, 0)]);
 }
 
 // A full leaf, and the free chain starts with that very leaf.
 #[test]
 fn chain_head_that_is_live(rt: HostRuntime) {
-    let mut words = two_pages([3, 2, 4, 1, 1], [1, 0, 4, 0]);
-    let mut index: Loads = Index::new(WordStore::new(&mut words));
-    let met = [
-        index.attach(),
-        index.begin(0, ENTER, at(1), 5),
-        index.turn(0),
-        index.withdraw(0),
-    ];
-    let _ = index.into_store();
+    let met = on(&mut two_pages([3, 2, 4, 1, 1], [1, 0, 4, 0]), |index| {
+        [
+            index.attach(),
+            index.begin(0, ENTER, at(1), 5),
+            index.turn(0),
+            index.withdraw(0),
+        ]
+    });
     assert_eq!(rt; met, [(20, 2), (20, 0), (8, 1), (28, 1)]);
 }

@@ -1,7 +1,5 @@
 //! Truck 7 on eight pages with fill 4: a split and a merge under jobs that stand on the page.
-use crate::loads::{ENTER, LOOK, Loads, STRIKE, at, enter};
-use index::Index;
-use store::words::WordStore;
+use crate::loads::{ENTER, LOOK, Loads, STRIKE, at, enter, on};
 
 // Seconds 10 to 40 in tens hold 100 to 400.
 fn enter_four(index: &mut Loads) {
@@ -50,16 +48,18 @@ fn merge_under_look(index: &mut Loads) -> [(u64, u64); 7] {
 
 #[test]
 fn day(rt: HostRuntime) {
-    let mut words = [0u64; 512];
-    let mut index: Loads = Index::new(WordStore::new(&mut words));
-    let made = index.format(4);
-    enter_four(&mut index);
-    let split = split_under_look(&mut index);
-    let raised = raise_and_post(&mut index);
-    let first = strike(&mut index, 10);
-    let second = strike(&mut index, 20);
-    let merged = merge_under_look(&mut index);
-    let _ = index.into_store();
+    let (made, split, raised, first, second, merged) = on(&mut [0; 512], |index| {
+        let made = index.format(4);
+        enter_four(index);
+        (
+            made,
+            split_under_look(index),
+            raise_and_post(index),
+            strike(index, 10),
+            strike(index, 20),
+            merge_under_look(index),
+        )
+    });
     assert_eq!(rt; made, (20, 8));
     assert_eq!(rt;
         split,

@@ -27,7 +27,8 @@ pub struct PlaceName {
 #[derive(Clone, Copy, PartialEq, Eq, Debug, Hash)]
 pub struct NoName;
 
-// The bytes of both words, as a name has them.
+// The bytes of both words, as a name has them. No `From`, nor in `key_of`: one between `Key` and 16 bytes would
+// publish for every key what only a place key means, and neither type is a place key's own.
 #[tactic(auto, unfolding(crate::specs::Places::text))]
 fn text_of(key: Key) -> [u8; LONGEST_NAME]
     ensures { result ≡ text key }
@@ -69,7 +70,7 @@ fn name_length(text: &[u8]) -> usize
     without_padding(text).len()
 }
 
-// A name with zeros up to the length of a text.
+// A name with zeros up to the length of a text. It is required to be no longer, as `is_name` has told the caller.
 fn padded(name: &[u8]) -> [u8; LONGEST_NAME]
     requires { length name.now ≤ 16 }
     ensures { result ≡ name.now ++ replicate (16 - length name.now) 0 }

@@ -36,11 +36,7 @@ fn place_of<S: Store>(store: &S, page: u64) -> Option<u64>
         (λ at. (at ≡ 64 * page) × (at + 64 < 2 ^ 64)) result }
 {
     // by division, since 64 times the number of a page that is not there may be no word
-    if page < store.length() / PAGE_WORDS as u64 {
-        Some(PAGE_WORDS as u64 * page)
-    } else {
-        None
-    }
+    (page < store.length() / PAGE_WORDS as u64).then(|| PAGE_WORDS as u64 * page)
 }
 
 // The words of a page, or `None` where it is not there.

@@ -42,6 +42,7 @@ impl Model for Entries {
     } };
 }
 
+// By hand: a derive says that its fields are defaults, not that it is `[]`, and wants a proof of the zeros behind.
 impl Default for Entries {
     ghost use Rattle.std.specs.Prelude.{◌≡◌, []};
 
@@ -90,7 +91,8 @@ impl Entries {
         self.as_slice().get(at).copied()
     }
 
-    // Puts entries, for which there is room, behind the last.
+    // Puts entries, for which there is room, behind the last. The room is required and not tested: each caller has
+    // tested it, or puts a part of a page's entries where there are none.
     fn put_behind(&mut self, more: &[Entry])
         requires { length self.old + length more.now ≤ 18 }
         ensures { self.new ≡ self.old ++ more.now }

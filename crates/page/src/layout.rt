@@ -37,6 +37,7 @@ pub struct TooManyEntries;
 
 // The start or end that three words say, which is there if the first of them is not 0.
 // A function and no `From`, as with `bound_words`: neither an option nor an array of words is a type of ours.
+// A slice that is required to be of three words, as a caller cuts it out of a page: to make an array of it may fail.
 fn bound_from(words: &[u64]) -> Option<Key>
     requires { length words.now ≡ 3 }
     ensures { result ≡ bound_from words.now 0 }
@@ -48,6 +49,7 @@ fn bound_from(words: &[u64]) -> Option<Key>
 }
 
 // As many entries as are asked for, if a page has room for so many. No `TryFrom`: it takes the count beside the words.
+// The words are required to be 54, the room for the most entries, as those above are to be three.
 fn entries_from(count: u64, words: &[u64]) -> Result<Entries, TooManyEntries>
     requires { length words.now ≡ 54 }
     ensures { MatchResult result
@@ -102,7 +104,7 @@ fn bound_words(bound: Option<Key>) -> [u64; 3]
     }
 }
 
-// Lays the entries down from word 10 on.
+// Lays the entries down from word 10 on. They are required to be at most 18, as `Entries` has, and a slice may not.
 fn put_entries(words: &mut [u64; PAGE_WORDS], entries: &[Entry])
     requires { length entries.now ≤ 18 }
     ensures { words.new ≡ overlay words.old 10 (entry_words entries.now) }

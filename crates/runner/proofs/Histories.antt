@@ -1,22 +1,21 @@
--- Every run from before its index is made is a history, with the reference beside it.
+-- Every run, from before its index is made or from any history, is a history, with the reference beside it.
 use Rattle.std.proofs.Common.{◌≡◌, ℕ, zero, suc, true, false, eqb, ◌⊎◌, List, [], ◌∷◌, Some, None, Option, refl, ap, ◌∙◌, inl, inr, arith}
 use Rattle.std.proofs.lemmas.Bool.Decides.{nat_tests}
-use Rattle.std.proofs.lemmas.Bool.{cond_both, eqb-true}
+use Rattle.std.proofs.lemmas.Bool.{cond_both, both_ways, eqb-true}
 use Rattle.model.specs.Answers.{code}
 use Rattle.model.specs.CallPromises.{Called}
 use Rattle.model.specs.Calls.{Call, step}
 use Rattle.model.specs.Entries.{KeyOrder}
 use Rattle.model.specs.Histories.{Pair, Starts, both, after}
 use Rattle.model.specs.Promises.{Laws}
-use Rattle.model.specs.Reference.{empty}
 use Rattle.model.specs.Starts.{format}
 use Rattle.model.specs.States.{State}
-use Rattle.model.proofs.CallPromises.{called, format_called}
+use Rattle.model.proofs.CallPromises.{called, ends_alone, format_called}
 use Rattle.runner.specs.declared.lines.Request.{Request}
 use Rattle.runner.specs.Lines.{request_of}
 use Rattle.runner.specs.Runs.{Asked, makes, calls, asked_by, is_made, is_due, step_of, done, reply_to}
 use Rattle.runner.specs.Runs.{line_step, line_at, state_at, reply_at}
-use Rattle.runner.specs.RunPromises.{both_run, both_after, pair_at, Kept, LineKept, RunKept}
+use Rattle.runner.specs.RunPromises.{with_none, both_run, both_after, pair_at, Kept, LineKept, RunKept, RunPromised}
 
 -- a format that does not answer 20 changes nothing
 format_refused : (fill : ℕ) (s : State) → eqb (code (format fill s).answer) 20 ≡ false → (format fill s).after ≡ s
@@ -40,17 +39,10 @@ record History (o : KeyOrder) (p : Pair) : Type 0 where
   history : List Call
   leads : after o history first ≡ p
 
-module _ (o : KeyOrder) (laws : Laws o) (start : State) (unmade : is_made start ≡ false) where
-  abbrev base : Pair
-  base = record { state = start; reference = empty }
-
-  -- the index is as at the start, or a history leads to it
+module _ (o : KeyOrder) (laws : Laws o) where
+  -- the index is not made yet, or a history leads to it
   abbrev Led : Pair → Type 0
-  Led p = (p ≡ base) ⊎ History o p
-
-  -- no call is due at the start
-  none_due : (p : Pair) → is_made p.state ≡ true → p ≡ base → ⊥
-  none_due p due e = cc
+  Led p = (is_made p.state ≡ false) ⊎ History o p
 
   -- a request that is run leads on
   led_run : (a : Asked) (p : Pair) → is_due a p.state ≡ true → Led p → Led (both_run o a p)
@@ -58,13 +50,13 @@ module _ (o : KeyOrder) (laws : Laws o) (start : State) (unmade : is_made start 
       let s = p.state in
       cond_both (eqb (code (format fill s).answer) 20) _ _ Led
       (λ twenty. inr (record {
-        first = record { state = (format fill s).after; reference = empty };
+        first = with_none (format fill s).after;
         starts = (format_called fill s _ refl _ _ _ refl refl refl).starts (eqb-true _ 20 twenty);
         history = [];
         leads = refl;
       }))
       (λ _. led)
-  led_run (calls c) p due (inl e) = absurd (none_due p due e)
+  led_run (calls c) p due (inl unmade) = absurd (both_ways _ unmade due)
   led_run (calls c) p due (inr h) =
       inr (record {
         first = h.first;
@@ -82,7 +74,7 @@ module _ (o : KeyOrder) (laws : Laws o) (start : State) (unmade : is_made start 
   -- a request that is run has its promises
   run_kept : (a : Asked) (p : Pair) → is_due a p.state ≡ true → Led p → Kept o a p (done (step_of o a p.state))
   run_kept (makes fill) p due led = format_called fill p.state _ refl _ _ _ refl refl refl
-  run_kept (calls c) p due (inl e) = absurd (none_due p due e)
+  run_kept (calls c) p due (inl unmade) = absurd (both_ways _ unmade due)
   run_kept (calls c) p due (inr h) =
       let x = done (step o c p.state) in
       let all : Called o c p.state x.code x.figure x.next =
@@ -96,6 +88,7 @@ module _ (o : KeyOrder) (laws : Laws o) (start : State) (unmade : is_made start 
         leads = h.leads;
         reference = rw h.leads at (all.reference h.first h.starts h.history here);
         sound = all.sound h.first h.starts h.history here;
+        alone = λ console. ends_alone o laws console p.state;
       }
 
   -- and so has a line
@@ -103,25 +96,32 @@ module _ (o : KeyOrder) (laws : Laws o) (start : State) (unmade : is_made start 
   line_kept None p line led = tt
   line_kept (Some q) p line led = λ due. rw due (run_kept (asked_by q) p due led)
 
-  module _ (input : List ℕ) where
-    led_at : (i : ℕ) → Led (pair_at o input start i)
-    led_at zero = inl refl
-    led_at (suc i) = led_line (request_of (line_at input i)) (pair_at o input start i) (led_at i)
+  module _ (input : List ℕ) (p : Pair) (led : Led p) where
+    led_at : (i : ℕ) → Led (pair_at o input p i)
+    led_at zero = led
+    led_at (suc i) = led_line (request_of (line_at input i)) (pair_at o input p i) (led_at i)
 
-    beside_at : (i : ℕ) → (pair_at o input start i).state ≡ state_at o input start i
+    beside_at : (i : ℕ) → (pair_at o input p i).state ≡ state_at o input p.state i
     unfolding line_step
     beside_at zero = refl
     beside_at (suc i) =
-        line_state o (request_of (line_at input i)) (pair_at o input start i) (suc i)
+        line_state o (request_of (line_at input i)) (pair_at o input p i) (suc i)
         ∙ ap (λ (s : State). (reply_to o (request_of (line_at input i)) (suc i) s).next) (beside_at i)
 
-    kept_at : (i : ℕ)
-        → LineKept o (request_of (line_at input i)) (pair_at o input start i) (reply_at o input start i)
+    kept_at : (i : ℕ) → LineKept o (request_of (line_at input i)) (pair_at o input p i) (reply_at o input p.state i)
     unfolding line_step
     kept_at i =
-        let kept = line_kept (request_of (line_at input i)) (pair_at o input start i) (suc i) (led_at i) in
+        let kept = line_kept (request_of (line_at input i)) (pair_at o input p i) (suc i) (led_at i) in
         rw (beside_at i) at kept
 
-    -- all of it, for a run from before its index is made
-    pub run_is_kept : RunKept o input start
+    run_is_kept : RunKept o input p
     run_is_kept = record { beside = beside_at; kept = kept_at }
+
+  -- all of it, for any run
+  pub run_is_promised : (input : List ℕ) (before : State) → RunPromised o input before
+  run_is_promised input before =
+      record {
+        unmade = λ unmade. run_is_kept input (with_none before) (inl unmade);
+        led = λ r start cs same. run_is_kept input (after o cs r)
+            (inr (record { first = r; starts = start; history = cs; leads = refl }));
+      }

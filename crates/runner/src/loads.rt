@@ -1,9 +1,6 @@
 //! The run of call lines over words, in load order.
-ghost use Rattle.std.specs.Prelude.{◌≡◌, ◌/◌, min, length};
-ghost use Rattle.store.specs.Overlay.{overlay};
 ghost use Rattle.model.specs.Example.{load_order, zeros};
-ghost use Rattle.runner.specs.Runs.{answers_to};
-ghost use Rattle.runner.specs.RunPromises.{RunKept};
+ghost use Rattle.runner.specs.RunPromises.{NewRun};
 
 use crate::runs::{NEW_WORDS, run_new};
 use order::LoadOrder;
@@ -11,10 +8,7 @@ use store::words::WordStore;
 
 /// Runs call lines, as `run` does, over 48 pages of zeros, as words, which loads are kept in.
 pub fn run_loads(input: &[u8], output: &mut [u8]) -> usize
-    ensures lines { result ≡ min (length input.now / 73) (length output.old / 25) }
-    ensures answers { output.new ≡ overlay output.old 0
-        (answers_to load_order input.now (zeros 3072) result) }
-    ensures promises { RunKept load_order input.now (zeros 3072) }
+    ensures { NewRun load_order (zeros 3072) input.now output.old output.new result }
 {
     // `run_new` is all that it shares with `run_places`: the memory, fixed as the project asks,
     // differs in type, and stays here while it is lent

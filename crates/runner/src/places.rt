@@ -1,10 +1,8 @@
 //! The run of call lines over text, in the order of place names.
-ghost use Rattle.std.specs.Prelude.{◌≡◌, ◌/◌, min, length};
-ghost use Rattle.store.specs.Overlay.{overlay};
+ghost use Rattle.std.specs.Prelude.{◌≡◌};
 ghost use Rattle.store.specs.Text.{word_line};
 ghost use Rattle.model.specs.Example.{place_order, zeros};
-ghost use Rattle.runner.specs.Runs.{answers_to};
-ghost use Rattle.runner.specs.RunPromises.{RunKept};
+ghost use Rattle.runner.specs.RunPromises.{NewRun};
 
 use crate::runs::{NEW_WORDS, run_new};
 use order::FoldedPlaceOrder;
@@ -23,10 +21,7 @@ fn zero_line() -> [u8; LINE]
 
 /// Runs call lines, as `run` does, over 48 pages of zeros, as text, in which place names are kept.
 pub fn run_places(input: &[u8], output: &mut [u8]) -> usize
-    ensures lines { result ≡ min (length input.now / 73) (length output.old / 25) }
-    ensures answers { output.new ≡ overlay output.old 0
-        (answers_to place_order input.now (zeros 3072) result) }
-    ensures promises { RunKept place_order input.now (zeros 3072) }
+    ensures { NewRun place_order (zeros 3072) input.now output.old output.new result }
 {
     // `run_new` is all that it shares with `run_loads`: the memory, fixed as the project asks,
     // differs in type, and stays here while it is lent

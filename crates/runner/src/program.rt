@@ -29,6 +29,7 @@ pub fn answer_calls<R: Read + Drop, W: Write, F: FnOnce(&[u8], &mut [u8]) -> usi
 {
     let mut input = ArrayVec::<u8, MOST_INPUT>::new();
     io::copy(&mut reader.take(MOST_INPUT as u64), &mut input)?;
+    // an array and a count: what is run takes room for its answers, which an `ArrayVec` does not lend
     let mut output = [0; MOST_OUTPUT];
     let lines = run(input.as_slice(), &mut output);
     writer.write_all(&output[..ANSWER_LINE * lines])

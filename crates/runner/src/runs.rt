@@ -1,16 +1,17 @@
 //! The run of call lines over an index.
-ghost use Rattle.std.specs.Prelude.{◌≡◌, ◌+◌, ◌*◌, ◌/◌, ◌<◌, ◌≤◌, min, false, length};
+ghost use Rattle.std.specs.Prelude.{◌≡◌, ◌+◌, ◌*◌, ◌/◌, ◌<◌, ◌≤◌, min, length};
 ghost use Rattle.index.specs.Indexes.{state_of, rule_of};
 ghost use Rattle.model.specs.Starts.{unmade};
 ghost use Rattle.store.specs.Overlay.{overlay};
 ghost use Rattle.runner.specs.Lines.{answer_line};
-ghost use Rattle.runner.specs.Runs.{answers_to, state_at, is_made};
-ghost use Rattle.runner.specs.RunPromises.{RunKept};
+ghost use Rattle.runner.specs.Runs.{answers_to, state_at};
+ghost use Rattle.runner.specs.RunPromises.{NewRun, RunPromised};
 ghost use Rattle.runner.specs.Runs.{asked_by, is_due, Performed, line_step};
 
 use crate::lines::{Request, read_request, write_answer};
 use index::Index;
 use order::Order;
+use page::PAGE_WORDS;
 use store::Store;
 
 /// The bytes of a call line.
@@ -20,7 +21,7 @@ pub const CALL_LINE: usize = 73;
 pub const ANSWER_LINE: usize = 25;
 
 // The words of the 48 pages over which `run_loads` and `run_places` make their indexes.
-pub(crate) const NEW_WORDS: usize = 48 * 64;
+pub(crate) const NEW_WORDS: usize = 48 * PAGE_WORDS;
 
 // The code of a line that is not run.
 const NOT_RUN: u64 = 13;
@@ -57,7 +58,8 @@ fn perform<S: Store, O: Order>(index: &mut Index<S, O>, request: Request) -> (u6
     }
 }
 
-// Answers one line, of this number: 13 with the number where it is not run, and then nothing changes.
+// Answers one line, of this number: 13 with the number where it is not run, and then nothing changes. A pair, as the
+// calls answer: the project has one kind of answer line for both.
 #[tactic(auto, using(crate::proofs::Replies::performed_gives), unfolding(crate::specs::Runs::line_step))]
 fn answer_line<S: Store, O: Order>(index: &mut Index<S, O>, line: &[u8], number: u64) -> (u64, u64)
     ensures code { result.0 ≡ (line_step (rule_of O.keyed O.compared) line.now number
@@ -88,15 +90,14 @@ fn put_answer(output: &mut [u8], i: usize, answer: (u64, u64))
 /// Runs call lines over an index, each 73 bytes of the input a line, and writes an answer line of 25 bytes for each
 /// to the output. It stops when whole lines or room for an answer run out, and says how many lines it answered.
 /// Bytes of the output behind their answers are left as they were.
-#[tactic(auto, using(crate::proofs::Histories::run_is_kept))]
+#[tactic(auto, using(crate::proofs::Histories::run_is_promised))]
 pub fn run<S: Store, O: Order>(index: &mut Index<S, O>, input: &[u8], output: &mut [u8]) -> usize
     ensures lines { result ≡ min (length input.now / 73) (length output.old / 25) }
     ensures answers { output.new ≡ overlay output.old 0
         (answers_to (rule_of O.keyed O.compared) input.now (state_of S.words index.old) result) }
     ensures state { state_of S.words index.new
         ≡ state_at (rule_of O.keyed O.compared) input.now (state_of S.words index.old) result }
-    ensures promises { is_made (state_of S.words index.old) ≡ false →
-        RunKept (rule_of O.keyed O.compared) input.now (state_of S.words index.old) }
+    ensures promises { RunPromised (rule_of O.keyed O.compared) input.now (state_of S.words index.old) }
 {
     let (whole, _) = input.as_chunks::<CALL_LINE>();
     let lines = &whole[..whole.len().min(output.len() / ANSWER_LINE)];
@@ -109,10 +110,7 @@ pub fn run<S: Store, O: Order>(index: &mut Index<S, O>, input: &[u8], output: &m
 
 /// Runs call lines, as `run` does, over an index on this store that is not made yet. The store is let go at the end.
 pub fn run_new<S: Store + Drop, O: Order>(store: S, input: &[u8], output: &mut [u8]) -> usize
-    ensures lines { result ≡ min (length input.now / 73) (length output.old / 25) }
-    ensures answers { output.new ≡ overlay output.old 0
-        (answers_to (rule_of O.keyed O.compared) input.now (unmade (S.words store)) result) }
-    ensures promises { RunKept (rule_of O.keyed O.compared) input.now (unmade (S.words store)) }
+    ensures { NewRun (rule_of O.keyed O.compared) (unmade (S.words store)) input.now output.old output.new result }
 {
     let mut index: Index<S, O> = Index::new(store);
     let lines = run(&mut index, input, output);

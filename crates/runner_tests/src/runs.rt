@@ -57,6 +57,21 @@ fn lines_that_are_not_run(rt: HostRuntime) {
         NOT_RUN,
         "another last byte"
     );
+    assert_eq!(rt;
+        answer(b"1     4 0                    0                    0                    0\n"),
+        NOT_RUN,
+        "a number at the left of its columns"
+    );
+    assert_eq!(rt;
+        answer(b" 1   +4 0                    0                    0                    0\n"),
+        NOT_RUN,
+        "a sign"
+    );
+    assert_eq!(rt;
+        answer(b" 1    4\n0                    0                    0                    0\n"),
+        NOT_RUN,
+        "byte 10 too early"
+    );
 }
 
 // Two lines, and room for one answer less a byte, for two less a byte, and for two.
@@ -103,5 +118,29 @@ fn read_and_written(rt: HostRuntime) {
     assert_eq!(rt;
         written.as_slice(),
         b" 20                   48\n".as_slice()
+    );
+}
+
+// An enter and its turn, and a post on a page that is no inner one, as `load_runner` has them run.
+#[test]
+fn first_calls(rt: HostRuntime) {
+    let lines = [
+        FORMAT,
+        *b" 2    0 2                    7                   10                  100\n",
+        *b" 3    0 0                    0                    0                    0\n",
+        *b" 5    9 0                    0                    0                    0\n",
+    ];
+    let mut written = Vec::new(rt.alloc());
+    let done = answer_calls(lines.as_flattened(), &mut written, run_loads);
+    assert!(rt; done.is_ok());
+    assert_eq!(rt;
+        written.as_slice().as_chunks().0,
+        [
+            *b" 20                   48\n",
+            *b" 20                    0\n",
+            *b" 25                    0\n",
+            *b" 10                    0\n",
+        ]
+        .as_slice()
     );
 }

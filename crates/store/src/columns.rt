@@ -4,16 +4,11 @@ ghost use Rattle.store.specs.Columns.{column, line_of, fits_column, fits_line, t
 
 use itoa::Buffer;
 
-// The bytes from the first on that is no space.
-#[tactic(auto, using(crate::proofs::Numbers::trimmed_other, crate::proofs::Numbers::trimmed_space))]
-fn after_spaces(text: &[u8]) -> &[u8]
+// The text from the first on that is no space. A function, so that the proof of `read_column` is of bytes, not matches.
+fn after_spaces(text: &str) -> &str
     ensures { result.now ≡ trimmed text.now }
 {
-    let mut rest = text;
-    while let [b' ', after @ ..] = rest {
-        rest = after;
-    }
-    rest
+    text.trim_start_matches(' ')
 }
 
 /// The number in a column: spaces, if any, and then a decimal number below 2^64,
@@ -21,7 +16,7 @@ fn after_spaces(text: &[u8]) -> &[u8]
 pub fn read_column(text: &[u8]) -> Option<u64>
     ensures { result ≡ column_number text.now }
 {
-    let numeral = str::from_utf8(after_spaces(text)).ok()?;
+    let numeral = after_spaces(str::from_utf8(text).ok()?);
     match numeral.as_bytes() {
         // a zero in front of other digits, and a sign: `parse` takes both
         [b'0', _, ..] | [b'+', ..] => None,

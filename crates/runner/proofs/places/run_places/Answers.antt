@@ -7,5 +7,4 @@ returns c =
     let zeros = zeros_in_form 3072 c.zero_line-lines.result c.as_flattened_mut.result.now c.zero_line-lines.ensures
     c.as_flattened_mut.ensures.value in
     let start = c.open.ensures.in_form zeros.0 ∙ zeros.1 in
-    let ran = c.run_new.ensures in
-    record { lines = ran.lines; answers = rw start at ran.answers; promises = rw start at ran.promises }
+    rw start at c.run_new.ensures

@@ -1,7 +1,12 @@
 use Rattle.model.proofs.CallPromises.{format_called}
+use Rattle.index.proofs.Refusals.{kept_below_20}
 use Rattle.index.proofs.index.Index.format.Goals as goal
 
 pub returns : goal.returns
 returns g c =
     let step = c.format_step.ensures in
-    format_called _ _ _ step.state _ _ _ step.answer c.pair.ensures.code c.pair.ensures.figure
+    record {
+      called =
+          format_called _ _ _ step.state _ _ _ step.answer c.pair.ensures.code c.pair.ensures.figure;
+      kept = kept_below_20 _ _ step.kept c.pair.ensures.code;
+    }

@@ -17,22 +17,30 @@ loop-page-preserved g c =
     let p = c.loop-page.page in
     let mark = c.requires p (omega arith) in
     let marks_taken = get_or-take s.pages c.args.marked.now p false (omega arith) in
+    let so = c.loop-page.invariant in
     elim c.if-is_marked.branch [
-      | then-is_marked w ↦ subst (λ f. Freed s (p + 1) u f) (sym w.freed-is)
-          (freed_one s t u p c.loop-page.freed (sym mark ∙ sym (marks_taken) ∙ w.if-is_marked.true) c.loop-page.invariant (ap (state_of words) w.self-is ∙ w.give_back.ensures))
-      | else-is_marked w ↦
-          subst (λ x. Freed s (p + 1) (state_of words x) c.if-is_marked.freed) (sym w.self-is)
-          (subst (λ f. Freed s (p + 1) t f) (sym w.freed-is)
-          (freed_kept s t p c.loop-page.freed (sym mark ∙ sym marks_taken ∙ w.if-is_marked.false) c.loop-page.invariant))
+      | then-is_marked w ↦ (
+        subst (λ f. Freed s (p + 1) u f) (sym w.freed-is)
+            (freed_one s t u p c.loop-page.freed (sym mark ∙ sym marks_taken ∙ w.if-is_marked.true) so.0
+            (ap (state_of words) w.self-is ∙ w.give_back.ensures)),
+        λ none. absurd (omega (arith, w.freed-is, none)),
+      )
+      | else-is_marked w ↦ (
+        subst (λ x. Freed s (p + 1) (state_of words x) c.if-is_marked.freed) (sym w.self-is)
+            (subst (λ f. Freed s (p + 1) t f) (sym w.freed-is)
+            (freed_kept s t p c.loop-page.freed (sym mark ∙ sym marks_taken ∙ w.if-is_marked.false) so.0)),
+        λ none. ap (λ x. x.store) w.self-is ∙ so.1 (sym w.freed-is ∙ none),
+      )
     ]
 
 pub returns : goal.returns
 returns g c =
     let s = state_of g.S.Store.words c.args.self.now in
-    let so = c.loop-page.invariant in
+    let so = c.loop-page.invariant.0 in
     let last : c.loop-page.page ≡ s.pages = omega arith in
     let all = ap (unreached_below s) last ∙ below_all s in
     record {
       count = so.count ∙ ap length all;
       state = so.given ∙ ap (λ ps. give_back_all ps s) all;
+      kept = c.loop-page.invariant.1;
     }

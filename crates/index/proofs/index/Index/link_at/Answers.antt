@@ -1,9 +1,9 @@
 use Rattle.std.proofs.Common.{sym, ◌∙◌}
 use Rattle.index.specs.Indexes.{state_of}
-use Rattle.index.proofs.PageWords.{link_word}
+use Rattle.index.proofs.PageWords.{link_read}
 use Rattle.index.proofs.index.Index.link_at.Goals as goal
 
-pub returns-then-has : goal.returns-then-has
-returns-then-has g c =
-    let s = state_of g.S.Store.words c.args.self.now in
-    c.read_word.ensures ∙ sym (link_word s c.args.page (sym c.if-has.ensures))
+pub returns : goal.returns
+returns g c =
+    c.unwrap_or.ensures
+    ∙ sym (link_read (state_of g.S.Store.words c.args.self.now) c.args.page c.word.result c.word.ensures)

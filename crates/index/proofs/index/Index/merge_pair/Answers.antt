@@ -7,25 +7,29 @@ use Rattle.index.proofs.index.Index.merge_pair.Goals as goal
 
 pub returns-in_err-right : goal.returns-in_err-right
 returns-in_err-right g c =
-    absurd (rest_unreadable (state_of g.S.Store.words c.args.self.now) c.args.page.now.level
-    c.as_slice.ensures.entries c.requires c.loop-at.at c.loop-at-test.true c.in_err-right.ensures)
+    let parts = sym c.as_slice.ensures.entries ∙ c.in_ok-first.ensures.cases.0 in
+    absurd (rest_unreadable (state_of g.S.Store.words c.args.self.now) c.args.page.now.level parts c.requires
+    c.loop-at.at c.loop-at-test.true c.in_err-right.ensures)
 
 pub returns-then-takes_next : goal.returns-then-takes_next
 returns-then-takes_next g c =
+    let parts = sym c.as_slice.ensures.entries ∙ c.in_ok-first.ensures.cases.0 in
     sym (c.loop-at.invariant.1
-    ∙ pair_here (state_of g.S.Store.words c.args.self.now) c.as_slice.ensures.entries c.loop-at.at c.loop-at-test.true
+    ∙ pair_here (state_of g.S.Store.words c.args.self.now) parts c.loop-at.at c.loop-at-test.true
     c.loop-at.invariant.0 c.in_ok-right.ensures.1 (sym c.if-takes_next.ensures))
 
 pub loop-at-preserved : goal.loop-at-preserved
-loop-at-preserved g c = (
-  c.in_ok-right.ensures.1
-      ∙ ap (view (state_of g.S.Store.words c.args.self.now)) (in_rest c.as_slice.ensures.entries c.loop-at.at),
-  c.loop-at.invariant.1
-      ∙ pair_on (state_of g.S.Store.words c.args.self.now) c.as_slice.ensures.entries c.loop-at.at c.loop-at-test.true
-      c.loop-at.invariant.0 c.in_ok-right.ensures.1 (sym c.if-takes_next.ensures),
-)
+loop-at-preserved g c =
+    let parts = sym c.as_slice.ensures.entries ∙ c.in_ok-first.ensures.cases.0 in
+    let s = state_of g.S.Store.words c.args.self.now in (
+      c.in_ok-right.ensures.1 ∙ ap (view s) (in_rest parts c.loop-at.at),
+      c.loop-at.invariant.1
+          ∙ pair_on s parts c.loop-at.at c.loop-at-test.true c.loop-at.invariant.0 c.in_ok-right.ensures.1
+          (sym c.if-takes_next.ensures),
+    )
 
 pub returns : goal.returns
 returns g c =
+    let parts = sym c.as_slice.ensures.entries ∙ c.in_ok-first.ensures.cases.0 in
     sym (c.loop-at.invariant.1
-    ∙ pair_none (state_of g.S.Store.words c.args.self.now) c.as_slice.ensures.entries c.loop-at.at c.loop-at-test.false)
+    ∙ pair_none (state_of g.S.Store.words c.args.self.now) parts c.loop-at.at c.loop-at-test.false)

@@ -1,7 +1,12 @@
 use Rattle.model.proofs.CallPromises.{called}
+use Rattle.index.proofs.Refusals.{kept_below_20}
 use Rattle.index.proofs.index.Index.sweep.Goals as goal
 
 pub returns : goal.returns
 returns g c =
     let step = c.sweep_step.ensures in
-    called _ g.met.O.Order.lawful _ _ _ step.state _ _ _ step.answer c.pair.ensures.code c.pair.ensures.figure
+    record {
+      called =
+          called _ g.met.O.Order.lawful _ _ _ step.state _ _ _ step.answer c.pair.ensures.code c.pair.ensures.figure;
+      kept = kept_below_20 _ _ step.kept c.pair.ensures.code;
+    }

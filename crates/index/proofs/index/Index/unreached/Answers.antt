@@ -23,7 +23,7 @@ pub pages-preserved-then-is_on : goal.pages-preserved-then-is_on
 pages-preserved-then-is_on g c =
     let s = state_of g.S.Store.words c.args.self.now in
     let p = c.pages.page in
-    let i = c.loop-console.console in
+    let i = c.loop-console._console in
     let on : is_on p (get_or s.jobs i None) ≡ true = grind (arith, nat_tests) in
     marking_kept s c.pages.marked p c.pages.invariant (stood_on s p (any_hit p s.jobs i on))
 

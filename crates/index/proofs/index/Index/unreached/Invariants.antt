@@ -7,7 +7,7 @@ use Rattle.index.proofs.index.Index.unreached.Given as goal
 
 -- no console so far has a job on the page
 abbrev pub invariant-loop-console : goal.invariant-loop-console
-invariant-loop-console g l = NoneOn l.self.consoles.jobs l.page l.console
+invariant-loop-console g l = NoneOn l.self.consoles.jobs l.page l._console
 
 -- no console has, and no page so far points to it
 abbrev pub invariant-loop-other : goal.invariant-loop-other
