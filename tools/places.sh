@@ -18,7 +18,7 @@ count() { # what, then the command that prints a line for each
 echo "1  shapes of Option and Result, flags, numbers"
 count "enums of our own" git grep -nE '^ *(pub(\(crate\))? )?enum ' "$rev" "${here[@]}"
 count "results that are a code and a figure, as two numbers" git grep -nE -- '-> (Option<)?\(u64, u64\)' "$rev" "${here[@]}"
-count "refusals handed on by return in place of ?" git grep -nE 'return (Err\()?Answer::|Err\(refusal\) => return' "$rev" "${here[@]}"
+count "refusals by return" git grep -nE 'return (Err\()?(Answer|Refusal)::|Err\(refusal\) => return' "$rev" "${here[@]}"
 count "None handed on by return behind let .. else" bash -c "git grep -nE -A1 'let Some\(.*else \{\$' $rev -- 'crates/*/src/*.rt' ':!crates/*_tests/src/*' | grep -E 'return None;'"
 count "results of bool of what changes something" git grep -nE 'fn .*&mut .*-> bool' "$rev" "${here[@]}"
 
@@ -43,7 +43,7 @@ count "arrays in structs and in bodies" git grep -nE '(: \[[^;]*; [A-Za-z_0-9]+\
 
 echo "7  switches"
 count "matches" git grep -nE '\bmatch ' "$rev" "${here[@]}"
-count "closures, Fn and dyn" git grep -nE '\bFn(Once|Mut)?\(|\bdyn |\|[a-z_&, ()*]+\| ' "$rev" "${all[@]}"
+count "closures, Fn and dyn" git grep -nE '\bFn(Once|Mut)?\(|\bdyn |\|[a-z_&, ()*]+\| |\(\|\| ' "$rev" "${all[@]}"
 
 echo "8  proofs"
 count "files of answers" bash -c "git ls-tree -r --name-only $rev | grep -E '^crates/[a-z_]+/proofs/.*/Answers.antt'"
