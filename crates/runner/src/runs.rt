@@ -36,7 +36,8 @@ fn is_due<S: Store, O: Order>(index: &Index<S, O>, request: Request) -> bool
     }
 }
 
-// Runs a request. One match and no closure: which call it is stands in the line.
+// Runs a request, and hands on the pair that the call answers. One match and no closure: which call it is stands in the
+// line.
 fn perform<S: Store, O: Order>(index: &mut Index<S, O>, request: Request) -> (u64, u64)
     ensures { Performed (rule_of O.keyed O.compared) (asked_by request) (state_of S.words index.old)
         result.0 result.1 (state_of S.words index.new) }
