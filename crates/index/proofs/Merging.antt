@@ -5,7 +5,7 @@ use Rattle.std.proofs.lemmas.Bool.Decides.{nat_tests}
 use Rattle.std.proofs.lemmas.List.{length-append}
 use Rattle.page.specs.declared.entries.Entry.{Entry}
 use Rattle.page.specs.Pages.{Page, is_there}
-use Rattle.model.specs.States.{State, view, write, readable, has_form, top_level, is_fed}
+use Rattle.model.specs.States.{State, view, write, readable, has_form, top_level, inner_has_entry}
 use Rattle.model.specs.Upkeep.{child_at, entry_out, wrong_child}
 use Rattle.model.specs.Upkeep.{is_small, merge_pair, joined, gone_into, merge_at}
 use Rattle.model.specs.Turns.{with_entries}
@@ -20,7 +20,7 @@ pub readable_few : (fill : ℕ) (x : Page) → readable fill x ≡ true → leng
 readable_few fill x held =
     let level = (and_parts (has_form x.state) _ held).1 in
     let few = (and_parts (leb x.level top_level) _ level).1 in
-    leb-true (length x.entries) fill (and_parts _ (is_fed x) few).0
+    leb-true (length x.entries) fill (and_parts _ (inner_has_entry x) few).0
 
 -- two pages of a pair, as they were read
 module _ (s : State) (left right : ℕ) {x y : Page} (first : x ≡ view s left) (second : y ≡ view s right) where

@@ -37,7 +37,7 @@ impl<S: Store, O: Order> Index<S, O> {
         }
         let kind = Kind::try_from(kind)?;
         if !O::is_key(key) {
-            return Err(Refusal::NoJob);
+            return Err(Refusal::BadTask);
         }
         let job = Job {
             task: Task { kind, key, value },

@@ -47,7 +47,7 @@ fn merge_under_look(index: &mut Loads) -> [(u64, u64); 7] {
 }
 
 #[test]
-fn day(rt: HostRuntime) {
+fn worked_example(rt: HostRuntime) {
     let (made, split, raised, first, second, merged) = on(&mut [0; 512], |index| {
         let made = index.format(4);
         enter_four(index);

@@ -36,8 +36,8 @@ module _ (o : KeyOrder) (laws : Laws o) (c : Call) (before next : State)
       (ap figure same ∙ sym is_figure) h))
 
   like_others : LikeOthers o c before next
-  like_others r q startR startQ cs ds e same =
-      let h = same_answers o laws r q startR startQ (c ∷ cs) ds same in
+  like_others r q first_starts other_starts cs ds e same =
+      let h = same_answers o laws r q first_starts other_starts (c ∷ cs) ds same in
       (h.0, ap entries_of (sym (then_after r cs e)) ∙ h.1)
 
   sound_then : SoundThen o before next

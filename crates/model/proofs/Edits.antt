@@ -72,7 +72,7 @@ module _ (f : ℕ → Page) (p : ℕ) (es : List Entry) (live : (f p).state ≡ 
   pub entries_tree : (o : KeyOrder) (fill root : ℕ) → LiveOk o fill f (with_entries es (f p)) → Tree o fill root f
       → Tree o fill root (upd f p (with_entries es (f p)))
   entries_tree o fill root ok t =
-      let rootKept = edit_keeps_live root t.root_live in
+      let root_edited = edit_keeps_live root t.root_live in
       record {
         live = upd_all f p x (λ q y. y.state ≡ Live → LiveOk o fill g y)
             (λ _. live_kept o f g edit_keeps_live fill x ok)
@@ -81,9 +81,9 @@ module _ (f : ℕ → Page) (p : ℕ) (es : List Entry) (live : (f p).state ≡ 
         gone = upd_all f p x (λ q y. y.state ≡ Gone → GoneOk o g y)
             (λ h. absurd (live_not_gone live h))
             (λ q _ h. gone_kept o f g (f q) (edit_keeps_held (f q).link) (t.gone q h));
-        root_live = rootKept.0;
-        root_start = rootKept.2 ∙ t.root_start;
-        root_top = subst (λ top. (q : ℕ) → has_form (g q).state ≡ true → (g q).level ≤ top) (sym rootKept.1)
+        root_live = root_edited.0;
+        root_start = root_edited.2 ∙ t.root_start;
+        root_top = subst (λ top. (q : ℕ) → has_form (g q).state ≡ true → (g q).level ≤ top) (sym root_edited.1)
             (upd_all f p x (λ q y. has_form y.state ≡ true → y.level ≤ (f root).level)
             (t.root_top p) (λ q _. t.root_top q));
         zero = upd_all f p x (λ q y. has_form (f q).state ≡ false → has_form y.state ≡ false) (λ e. e)

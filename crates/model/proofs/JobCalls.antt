@@ -2,7 +2,7 @@
 use Rattle.std.proofs.Common.{◌≡◌, ℕ, Bool, ltb, Some, None, Option, sym, refl, subst, arith}
 use Rattle.order.specs.declared.keys.Key.{Key}
 use Rattle.order.specs.Laws.{Lawful}
-use Rattle.model.specs.declared.answers.Refusal.TheVariants.{Busy, Idle, NoJob}
+use Rattle.model.specs.declared.answers.Refusal.TheVariants.{Busy, Idle, BadTask}
 use Rattle.model.specs.declared.jobs.Job.{Job}
 use Rattle.model.specs.declared.jobs.Kind.{Kind}
 use Rattle.model.specs.declared.jobs.Task.{Task}
@@ -26,7 +26,7 @@ module _ {o : KeyOrder} (laws : Lawful o.keyed o.compared) {s : State} {r : Refe
     (agrees : Agrees o (view s) s.jobs r) (c : ℕ) where
   begin_task_lem : (new : Option Task) → ((t : Task) → new ≡ Some t → IsKey o t.key)
       → Kept o (turns.begin_task o c new s) (reference.note_task o c new r)
-  begin_task_lem None keyed = refused_kept inv agrees NoJob (λ e. omega arith)
+  begin_task_lem None keyed = refused_kept inv agrees BadTask (λ e. omega arith)
   begin_task_lem (Some t) keyed =
       let job : Job = record { task = t; page = root s } in
       record {

@@ -5,7 +5,7 @@ use Rattle.model.specs.declared.answers.Done.TheVariants.{Made, Begun, Moved, Sp
 use Rattle.model.specs.declared.answers.Done.TheVariants.{Struck, Withdrawn, Posted, Merged, Raised, Swept}
 use Rattle.model.specs.declared.answers.Refusal.{Refusal}
 use Rattle.model.specs.declared.answers.Refusal.TheVariants.{StoreTooSmall, NoFill, NoIndex, NoConsole, Busy, Idle}
-use Rattle.model.specs.declared.answers.Refusal.TheVariants.{NoJob, Unreadable, NoFreePage, NoInner, Nothing}
+use Rattle.model.specs.declared.answers.Refusal.TheVariants.{BadTask, Unreadable, NoFreePage, NoInner, Nothing}
 
 -- an `Answer`, since antt has no name for an alias
 abbrev pub Answer : Type 0
@@ -18,7 +18,7 @@ code (Err NoIndex) = 3
 code (Err NoConsole) = 4
 code (Err Busy) = 5
 code (Err Idle) = 6
-code (Err NoJob) = 7
+code (Err BadTask) = 7
 code (Err (Unreadable p)) = 8
 code (Err NoFreePage) = 9
 code (Err NoInner) = 10
@@ -45,7 +45,7 @@ figure (Err NoIndex) = 0
 figure (Err NoConsole) = 0
 figure (Err Busy) = 0
 figure (Err Idle) = 0
-figure (Err NoJob) = 0
+figure (Err BadTask) = 0
 figure (Err (Unreadable p)) = p
 figure (Err NoFreePage) = 0
 figure (Err NoInner) = 0

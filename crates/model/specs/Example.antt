@@ -194,8 +194,8 @@ pub record WorkedExample : Type 0 where
   -- trucks
   pub truck0 : on_formatted load_order 512 4 (look 0 (record { hi = 0; lo = 10 }) ∷ []) ≡ (7, 0) ∷ []
   pub truck10000 : on_formatted load_order 512 4 (look 0 (record { hi = 10000; lo = 10 }) ∷ []) ≡ (7, 0) ∷ []
-  -- the day of truck 7
-  pub day :
+  -- truck 7, call by call
+  pub truck_seven :
       on_formatted load_order 512 4 (four_loads ++ (split_under_look ++ (new_root ++ (two_strikes ++ merge_under_look))))
       ≡ four_answers ++ (split_answers ++ (root_answers ++ (strike_answers ++ merge_answers)))
   -- on three pages a job takes three turns, as many as there are pages

@@ -6,7 +6,7 @@ use Rattle.model.specs.declared.jobs.Kind.TheVariants.{Look, Enter, Strike}
 use Rattle.model.specs.declared.jobs.Task.{Task}
 use Rattle.model.specs.declared.answers.Done.{Done}
 use Rattle.model.specs.declared.answers.Done.TheVariants.{Begun, Found, Absent, Entered, Held, Struck, Withdrawn}
-use Rattle.model.specs.declared.answers.Refusal.TheVariants.{NoConsole, Busy, Idle, NoJob}
+use Rattle.model.specs.declared.answers.Refusal.TheVariants.{NoConsole, Busy, Idle, BadTask}
 use Rattle.model.specs.Answers.{Answer}
 use Rattle.model.specs.Entries.{KeyOrder, find, insert, remove}
 use Rattle.model.specs.Turns.{kind_of, task_of}
@@ -54,7 +54,7 @@ module _ (o : KeyOrder) where
   turn_task c false (Some t) r = do_task c t t.kind (find o t.key r.entries) r
 
   abbrev pub note_task : ℕ → Option Task → Reference → Reply
-  note_task c None r = saying (Err NoJob) r
+  note_task c None r = saying (Err BadTask) r
   note_task c (Some t) r = saying (Ok Begun) (with_task c (Some t) r)
 
   abbrev pub begin_task : ℕ → Option Task → Option Task → Reference → Reply

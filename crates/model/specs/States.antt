@@ -87,8 +87,8 @@ is_gone Gone = true
 is_gone Damaged = false
 
 -- a live inner page has an entry
-abbrev pub is_fed : Page → Bool
-is_fed x = not (is_live x.state && (nat_lt 0 x.level && length x.entries == 0))
+abbrev pub inner_has_entry : Page → Bool
+inner_has_entry x = not (is_live x.state && (nat_lt 0 x.level && length x.entries == 0))
 
 abbrev pub has_form : PageState → Bool
 has_form Free = false
@@ -97,7 +97,7 @@ has_form Gone = true
 has_form Damaged = false
 
 abbrev pub readable : ℕ → Page → Bool
-readable fill x = has_form x.state && (nat_le x.level top_level && (nat_le (length x.entries) fill && is_fed x))
+readable fill x = has_form x.state && (nat_le x.level top_level && (nat_le (length x.entries) fill && inner_has_entry x))
 
 -- the first free page, taken off the chain by whoever needs a page
 abbrev pub free_page : State → Result ℕ Refusal

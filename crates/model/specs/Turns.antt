@@ -7,7 +7,7 @@ use Rattle.page.specs.declared.pages.PageState.TheVariants.{Free, Live, Gone, Da
 use Rattle.page.specs.Pages.{Page}
 use Rattle.model.specs.declared.answers.Done.{Done}
 use Rattle.model.specs.declared.answers.Done.TheVariants.{Begun, Moved, Found, Absent, Entered, Held, Struck, Withdrawn}
-use Rattle.model.specs.declared.answers.Refusal.TheVariants.{NoConsole, Busy, Idle, NoJob, Unreadable}
+use Rattle.model.specs.declared.answers.Refusal.TheVariants.{NoConsole, Busy, Idle, BadTask, Unreadable}
 use Rattle.model.specs.declared.jobs.Kind.{Kind}
 use Rattle.model.specs.declared.jobs.Kind.TheVariants.{Look, Enter, Strike}
 use Rattle.model.specs.declared.jobs.NoKind.{NoKind}
@@ -102,7 +102,7 @@ module _ (o : KeyOrder) where
   task_of (Some kind) k v = cond (o.keyed k) (Some (record { kind = kind; key = k; value = v })) None
 
   abbrev pub begin_task : ℕ → Option Task → State → Outcome
-  begin_task c None s = refused NoJob s
+  begin_task c None s = refused BadTask s
   begin_task c (Some t) s = answered Begun (with_job c (Some (record { task = t; page = root s })) s)
 
   abbrev pub begin_job : ℕ → Option Job → Option Task → State → Outcome

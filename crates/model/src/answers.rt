@@ -1,6 +1,6 @@
 //! What the calls of an index answer.
 ghost use Rattle.std.specs.Prelude.{◌≡◌};
-ghost use Rattle.model.specs.declared.answers.Refusal.TheVariants.{NoJob};
+ghost use Rattle.model.specs.declared.answers.Refusal.TheVariants.{BadTask};
 ghost use Rattle.model.specs.Answers.{code, figure};
 
 use crate::jobs::NoKind;
@@ -25,7 +25,7 @@ pub enum Refusal {
     /// 6: the console has no job
     Idle,
     /// 7: the kind is not 1 to 3, or the words are no key
-    NoJob,
+    BadTask,
     /// 8: this page is not what it should be
     Unreadable(u64),
     /// 9: a page is needed, and none is free
@@ -70,10 +70,10 @@ pub enum Done {
 }
 
 impl From<NoKind> for Refusal {
-    ghost from_gives = { λ _ refusal. refusal ≡ NoJob };
+    ghost from_gives = { λ _ refusal. refusal ≡ BadTask };
 
     fn from(_none: NoKind) -> Self {
-        Self::NoJob
+        Self::BadTask
     }
 }
 
@@ -89,7 +89,7 @@ impl Refusal {
             Refusal::NoConsole => (4, 0),
             Refusal::Busy => (5, 0),
             Refusal::Idle => (6, 0),
-            Refusal::NoJob => (7, 0),
+            Refusal::BadTask => (7, 0),
             Refusal::Unreadable(page) => (8, page),
             Refusal::NoFreePage => (9, 0),
             Refusal::NoInner => (10, 0),

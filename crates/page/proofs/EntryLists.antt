@@ -98,7 +98,7 @@ put_before {items} {n} xs e at ys zs held low is turned =
 pub default_is : (e : Entry) → (e.key.hi ≡ 0 × e.key.lo ≡ 0) × e.value ≡ 0 → e ≡ nothing
 default_is e zeros = λ i. record { key = record { hi = zeros.0.0 i; lo = zeros.0.1 i }; value = zeros.1 i }
 
--- the entry at a place, turned to the end of the memory and blotted out there, is out
+-- the entry at a place, turned to the end of the memory and zeroed there, is out
 pub taken_out : {items : List Entry} {n : ℕ} {xs : List Entry} (at : ℕ) (ys : List Entry) (e : Entry)
     → Holds items n xs → at < length xs
     → ys ≡ drop 1 (take (18 - at) (drop at items)) ++ take 1 (take (18 - at) (drop at items)) → e ≡ nothing
@@ -115,13 +115,13 @@ taken_out {items} {n} {xs} at ys e held within turned blank =
     ∙ omega (arith, fewer, length-replicate (18 - n) nothing, held.long, held.few) in
     let moved =
     put_mid-rotated at (18 - at) items ys nothing (omega (arith, held.long, held.few)) (omega arith) turned in
-    let blotted = set_at (remove_at xs at ++ rest) (get_or items at nothing) [] nothing 17 long in
+    let zeroed = set_at (remove_at xs at ++ rest) (get_or items at nothing) [] nothing 17 long in
     let joined = append_assoc (remove_at xs at) rest (nothing ∷ []) in
     let zeros = replicate-append-replicate (18 - n) 1 nothing in
     let fits : 18 - n + 1 ≡ 18 - (n - 1) = omega (arith, held.long, held.few) in
     record { long = fewer; few = omega (arith, held.few); whole = cc }
 
--- entries that are blotted out from a place on
+-- entries that are zeroed from a place on
 pub cut_off : {items : List Entry} {n : ℕ} {xs : List Entry} (k : ℕ) (ys : List Entry) (e : Entry)
     → Holds items n xs → k ≤ n → e ≡ nothing → ys ≡ replicate (length (take (n - k) (drop k items))) e
     → Holds (put_mid k (n - k) items ys) k (take k xs)

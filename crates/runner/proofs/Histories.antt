@@ -15,7 +15,7 @@ use Rattle.runner.specs.declared.lines.Request.{Request}
 use Rattle.runner.specs.Lines.{request_of}
 use Rattle.runner.specs.Runs.{Asked, makes, calls, asked_by, is_made, is_due, step_of, done, reply_to}
 use Rattle.runner.specs.Runs.{line_step, line_at, state_at, reply_at}
-use Rattle.runner.specs.RunPromises.{with_none, both_run, both_after, pair_at, Kept, LineKept, RunKept, RunPromised}
+use Rattle.runner.specs.RunPromises.{with_none, both_run, both_after, pair_at, RequestPromised, LinePromised, LinesPromised, RunPromised}
 
 -- a format that does not answer 20 changes nothing
 format_refused : (fill : ℕ) (s : State) → eqb (code (format fill s).answer) 20 ≡ false → (format fill s).after ≡ s
@@ -72,10 +72,10 @@ module _ (o : KeyOrder) (laws : Laws o) where
       cond_both (is_due (asked_by q) p.state) _ _ Led (λ due. led_run (asked_by q) p due led) (λ _. led)
 
   -- a request that is run has its promises
-  run_kept : (a : Asked) (p : Pair) → is_due a p.state ≡ true → Led p → Kept o a p (done (step_of o a p.state))
-  run_kept (makes fill) p due led = format_called fill p.state _ refl _ _ _ refl refl refl
-  run_kept (calls c) p due (inl unmade) = absurd (both_ways _ unmade due)
-  run_kept (calls c) p due (inr h) =
+  request_promised : (a : Asked) (p : Pair) → is_due a p.state ≡ true → Led p → RequestPromised o a p (done (step_of o a p.state))
+  request_promised (makes fill) p due led = format_called fill p.state _ refl _ _ _ refl refl refl
+  request_promised (calls c) p due (inl unmade) = absurd (both_ways _ unmade due)
+  request_promised (calls c) p due (inr h) =
       let x = done (step o c p.state) in
       let all : Called o c p.state x.code x.figure x.next =
       called o laws c p.state _ refl _ _ _ refl refl refl in
@@ -92,9 +92,9 @@ module _ (o : KeyOrder) (laws : Laws o) where
       }
 
   -- and so has a line
-  line_kept : (x : Option Request) (p : Pair) (line : ℕ) → Led p → LineKept o x p (reply_to o x line p.state)
-  line_kept None p line led = tt
-  line_kept (Some q) p line led = λ due. rw due (run_kept (asked_by q) p due led)
+  line_promised : (x : Option Request) (p : Pair) (line : ℕ) → Led p → LinePromised o x p (reply_to o x line p.state)
+  line_promised None p line led = tt
+  line_promised (Some q) p line led = λ due. rw due (request_promised (asked_by q) p due led)
 
   module _ (input : List ℕ) (p : Pair) (led : Led p) where
     led_at : (i : ℕ) → Led (pair_at o input p i)
@@ -108,20 +108,20 @@ module _ (o : KeyOrder) (laws : Laws o) where
         line_state o (request_of (line_at input i)) (pair_at o input p i) (suc i)
         ∙ ap (λ (s : State). (reply_to o (request_of (line_at input i)) (suc i) s).next) (beside_at i)
 
-    kept_at : (i : ℕ) → LineKept o (request_of (line_at input i)) (pair_at o input p i) (reply_at o input p.state i)
+    promised_at : (i : ℕ) → LinePromised o (request_of (line_at input i)) (pair_at o input p i) (reply_at o input p.state i)
     unfolding line_step
-    kept_at i =
-        let kept = line_kept (request_of (line_at input i)) (pair_at o input p i) (suc i) (led_at i) in
-        rw (beside_at i) at kept
+    promised_at i =
+        let promised = line_promised (request_of (line_at input i)) (pair_at o input p i) (suc i) (led_at i) in
+        rw (beside_at i) at promised
 
-    run_is_kept : RunKept o input p
-    run_is_kept = record { beside = beside_at; kept = kept_at }
+    lines_promised : LinesPromised o input p
+    lines_promised = record { beside = beside_at; promised = promised_at }
 
   -- all of it, for any run
   pub run_is_promised : (input : List ℕ) (before : State) → RunPromised o input before
   run_is_promised input before =
       record {
-        unmade = λ unmade. run_is_kept input (with_none before) (inl unmade);
-        led = λ r start cs same. run_is_kept input (after o cs r)
+        unmade = λ unmade. lines_promised input (with_none before) (inl unmade);
+        led = λ r start cs same. lines_promised input (after o cs r)
             (inr (record { first = r; starts = start; history = cs; leads = refl }));
       }

@@ -39,7 +39,7 @@ pair_at o input p (suc i) = both_after o (request_of (line_at input i)) (pair_at
 
 -- a call that is run: it has the promises of a call, a history with this reference leads to it, it answers as this
 -- reference does and leaves its entries, the store is sound after it, and before it a job alone would end
-pub record CallKept (o : KeyOrder) (c : Call) (p : Pair) (x : Reply) : Type 0 where
+pub record CallPromised (o : KeyOrder) (c : Call) (p : Pair) (x : Reply) : Type 0 where
   pub called : Called o c p.state x.code x.figure x.next
   pub first : Pair
   pub starts : Starts first
@@ -49,28 +49,28 @@ pub record CallKept (o : KeyOrder) (c : Call) (p : Pair) (x : Reply) : Type 0 wh
   pub sound : Sound o x.next
   pub alone : (console : ℕ) → EndsAlone o console p.state
 
-abbrev pub Kept : KeyOrder → Asked → Pair → Reply → Type 0
-Kept o (makes fill) p x = FormatCalled fill p.state x.code x.figure x.next
-Kept o (calls c) p x = CallKept o c p x
+abbrev pub RequestPromised : KeyOrder → Asked → Pair → Reply → Type 0
+RequestPromised o (makes fill) p x = FormatCalled fill p.state x.code x.figure x.next
+RequestPromised o (calls c) p x = CallPromised o c p x
 
--- a line that is not run has nothing to keep
-abbrev pub LineKept : KeyOrder → Option Request → Pair → Reply → Type 0
-LineKept o None p x = Unit {0}
-LineKept o (Some q) p x = is_due (asked_by q) p.state ≡ true → Kept o (asked_by q) p x
+-- a line that is not run has no promise
+abbrev pub LinePromised : KeyOrder → Option Request → Pair → Reply → Type 0
+LinePromised o None p x = Unit {0}
+LinePromised o (Some q) p x = is_due (asked_by q) p.state ≡ true → RequestPromised o (asked_by q) p x
 
--- at every line the index stands beside the reference, and what the line runs is kept
-pub record RunKept (o : KeyOrder) (input : List ℕ) (p : Pair) : Type 0 where
+-- at every line the index stands beside the reference, and what the line runs has its promises
+pub record LinesPromised (o : KeyOrder) (input : List ℕ) (p : Pair) : Type 0 where
   pub beside : (i : ℕ) → (pair_at o input p i).state ≡ state_at o input p.state i
-  pub kept : (i : ℕ) → LineKept o (request_of (line_at input i)) (pair_at o input p i) (reply_at o input p.state i)
+  pub promised : (i : ℕ) → LinePromised o (request_of (line_at input i)) (pair_at o input p i) (reply_at o input p.state i)
 
 -- so it is where the index is not made yet, and for every history that leads to it, with that history's reference
 pub record RunPromised (o : KeyOrder) (input : List ℕ) (before : State) : Type 0 where
-  pub unmade : is_made before ≡ false → RunKept o input (with_none before)
-  pub led : (r : Pair) → Starts r → (cs : List Call) → (after o cs r).state ≡ before → RunKept o input (after o cs r)
+  pub unmade : is_made before ≡ false → LinesPromised o input (with_none before)
+  pub led : (r : Pair) → Starts r → (cs : List Call) → (after o cs r).state ≡ before → LinesPromised o input (after o cs r)
 
 -- what a run over a new index says: how many lines it answered, that the output is their answers and what was behind
--- them, and that all of it is kept
+-- them, and that every line has its promises
 pub record NewRun (o : KeyOrder) (new : State) (input before after : List ℕ) (answered : ℕ) : Type 0 where
   pub lines : answered ≡ min (length input / 73) (length before / 25)
   pub answers : after ≡ overlay before 0 (answers_to o input new answered)
-  pub promises : RunKept o input (with_none new)
+  pub promises : LinesPromised o input (with_none new)

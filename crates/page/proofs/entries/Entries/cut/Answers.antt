@@ -1,4 +1,4 @@
--- The entries behind the place are blotted out.
+-- The entries behind the place are zeroed.
 use Rattle.std.proofs.Common.{arith}
 use Rattle.page.proofs.EntryLists.{default_is, opened, closed, cut_off}
 use Rattle.page.proofs.entries.Entries.cut.Goals as goal

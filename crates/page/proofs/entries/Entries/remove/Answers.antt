@@ -1,4 +1,4 @@
--- The entry is turned to the end of the memory, and blotted out there.
+-- The entry is turned to the end of the memory, and zeroed there.
 use Rattle.page.proofs.EntryLists.{within_at, default_is, opened, closed, viewed, taken_out}
 use Rattle.page.proofs.entries.Entries.remove.Goals as goal
 
