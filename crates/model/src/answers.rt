@@ -1,4 +1,4 @@
-//! What the calls of an index answer.
+//! What the calls of an index answer. The codes 12 and 13 are not theirs: the text test answers 12, the runner 13.
 ghost use Rattle.std.specs.Prelude.{◌≡◌};
 ghost use Rattle.model.specs.declared.answers.Refusal.TheVariants.{BadTask};
 ghost use Rattle.model.specs.Answers.{code, figure};
@@ -12,58 +12,58 @@ pub type Answer = Result<Done, Refusal>;
 // No `Display`: a refusal is told by its code and figure, and is never printed.
 #[derive(Clone, Copy, Debug, PartialEq, Eq)]
 pub enum Refusal {
-    /// 1: the store has fewer than 128 words
+    /// 1: the store has fewer than 128 words, which are two pages
     StoreTooSmall,
-    /// 2: the fill is not 4 to 18
+    /// 2: the fill is below 4 or above 18
     NoFill,
-    /// 3: page 0 is not that of an index
+    /// 3: page 0 does not describe an index that fits this store
     NoIndex,
-    /// 4: the console's number is above 31
+    /// 4: no such console: its number is above 31
     NoConsole,
-    /// 5: the console has a job
+    /// 5: the console is busy with a job
     Busy,
-    /// 6: the console has no job
+    /// 6: the console is idle
     Idle,
-    /// 7: the kind is not 1 to 3, or the words are no key
+    /// 7: no such kind, or the two words are no key
     BadTask,
-    /// 8: this page is not what it should be
+    /// 8: this page (the job's, a child, the root, or the first free one) is not what the call needs
     Unreadable(u64),
-    /// 9: a page is needed, and none is free
+    /// 9: a page has to be taken, and there is no free one
     NoFreePage,
-    /// 10: the page is no live inner page
+    /// 10: the argument is not a readable, live inner page
     NoInner,
-    /// 11: there is nothing to do
+    /// 11: there was nothing to do
     Nothing,
 }
 
 /// What a call did: each case has a code, and where it says so a figure.
 #[derive(Clone, Copy, Debug, PartialEq, Eq)]
 pub enum Done {
-    /// 20: the index is made, with so many pages
+    /// 20: the index is made, with so many pages, and all consoles are idle
     Made(u64),
-    /// 20: the job stands on the root
+    /// 20: the console has its job
     Begun,
-    /// 21: the job goes to this page
+    /// 21: the job has gone on to this page
     Moved(u64),
-    /// 22: the page was split, and this is the new one
+    /// 22: a full page was split, and this one is new
     Split(u64),
-    /// 23: the value that is held
+    /// 23: a look is finished: the key has this value
     Found(u64),
-    /// 24: there is no such entry
+    /// 24: a look or a strike is finished: no entry has the key
     Absent,
-    /// 25: the entry is in
+    /// 25: an enter is finished: the entry is in
     Entered,
-    /// 26: this value is held already
+    /// 26: an enter is finished: the key has this value already, and keeps it
     Held(u64),
-    /// 27: the entry is out, and this was its value
+    /// 27: a strike is finished: the entry is out, and had this value
     Struck(u64),
-    /// 28: the job is dropped, which stood on this page
+    /// 28: the job is dropped, and it stood on this page
     Withdrawn(u64),
-    /// 29: this page has an entry now
+    /// 29: this page has an entry in its parent now
     Posted(u64),
-    /// 30: this page is merged into its left neighbour
+    /// 30: this page is gone: its left neighbour has its entries
     Merged(u64),
-    /// 31: this page is the root now
+    /// 31: this page is the new root
     Raised(u64),
     /// 32: so many pages are free again
     Swept(u64),
@@ -123,7 +123,8 @@ impl Done {
 }
 
 /// The code of an answer and its figure, which is 0 where the answer names none.
-// Two numbers, since they are the project's interface; a function and no `From`, which would not say what they are.
+// Two numbers, since a console and an answer line show just these; a function and no `From`, which would not say what they
+// are.
 pub fn pair(answer: Answer) -> (u64, u64)
     ensures code { result.0 ≡ code answer }
     ensures figure { result.1 ≡ figure answer }
