@@ -123,8 +123,8 @@ impl Done {
 }
 
 /// The code of an answer and its figure, which is 0 where the answer names none.
-// Two numbers, since a console and an answer line show just these; a function and no `From`, which would not say what they
-// are.
+// Two numbers, since a console and an answer line show just these; a function and no `From`, which would not say what
+// they are.
 pub fn pair(answer: Answer) -> (u64, u64)
     ensures code { result.0 ≡ code answer }
     ensures figure { result.1 ≡ figure answer }
