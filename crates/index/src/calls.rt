@@ -1,6 +1,7 @@
 //! The calls of an index. Each answers a code and a figure, and a refusal, a code below 20, changes nothing.
 //!
-//! They take and give numbers, since these are the project's interface; behind them an answer is a `Result`.
+//! They take and give numbers, as a console sends and shows them: what is out of range is refused here, and not before.
+//! Behind them an answer is a `Result`.
 ghost use Rattle.std.specs.Prelude.{◌≡◌, ◌<◌};
 ghost use Rattle.model.specs.CallPromises.{AttachCalled, Called, EndsAlone, FormatCalled};
 ghost use Rattle.model.specs.Calls.{begin as begin_call, turn as turn_call, withdraw as withdraw_call};

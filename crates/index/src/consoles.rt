@@ -9,7 +9,7 @@ use model::Job;
 pub(crate) const CONSOLES: usize = 32;
 
 // The console table: each console has a job or none.
-// 32 of them in fixed memory, as the project asks.
+// 32 of them in fixed memory: there are so many screens, always, and no call may fail for want of memory.
 #[derive(Clone, Copy, Debug, PartialEq, Eq)]
 pub(crate) struct Consoles {
     jobs: [Option<Job>; CONSOLES],
@@ -34,7 +34,7 @@ impl Consoles {
     }
 
     // Leaves every console idle.
-    // A loop over the consoles with their numbers: the project fixes this shape for the table.
+    // Console by console with its number, by the loop with which sweep scans them, so that both read alike.
     pub(crate) fn clear(&mut self)
         ensures { self.new.jobs ≡ no_jobs }
     {

@@ -30,8 +30,8 @@ impl<S: Store, O: Order> Index<S, O> {
     }
 
     // Marks the gone pages on which no job stands and to which no gone page points.
-    // A loop with inner scans, left by its label, and no chain: the project fixes this shape for the sweep. The marks are
-    // in fixed memory: no call may fail for want of it.
+    // A loop with inner scans, and no chain: either scan may settle that a page stays, and its first hit leaves both by
+    // the label. The marks are in fixed memory: no call may fail for want of it.
     fn unreached(&self) -> [bool; MOST_PAGES]
         ensures { MarkedBelow (state_of S.words self.now) self.now.pages result }
     {

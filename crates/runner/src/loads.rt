@@ -10,7 +10,7 @@ use store::words::WordStore;
 pub fn run_loads(input: &[u8], output: &mut [u8]) -> usize
     ensures { NewRun load_order (zeros 3072) input.now output.old output.new result }
 {
-    // `run_new` is all that it shares with `run_places`: the memory, fixed as the project asks,
+    // `run_new` is all that it shares with `run_places`: the memory, fixed so that no run fails for want of it,
     // differs in type, and stays here while it is lent
     let mut words = [0; NEW_WORDS];
     run_new::<WordStore, LoadOrder>(WordStore::new(&mut words), input, output)

@@ -23,7 +23,7 @@ fn zero_line() -> [u8; LINE]
 pub fn run_places(input: &[u8], output: &mut [u8]) -> usize
     ensures { NewRun place_order (zeros 3072) input.now output.old output.new result }
 {
-    // `run_new` is all that it shares with `run_loads`: the memory, fixed as the project asks,
+    // `run_new` is all that it shares with `run_loads`: the memory, fixed so that no run fails for want of it,
     // differs in type, and stays here while it is lent
     let mut lines = [zero_line(); NEW_WORDS];
     run_new::<TextStore, FoldedPlaceOrder>(TextStore::open(lines.as_flattened_mut()), input, output)

@@ -60,7 +60,7 @@ fn perform<S: Store, O: Order>(index: &mut Index<S, O>, request: Request) -> (u6
 }
 
 // Answers one line, of this number: 13 with the number where it is not run, and then nothing changes. A pair, as the
-// calls answer: the project has one kind of answer line for both.
+// calls answer: both become the same kind of answer line.
 #[tactic(auto, using(crate::proofs::Replies::performed_gives), unfolding(crate::specs::Runs::line_step))]
 fn answer_line<S: Store, O: Order>(index: &mut Index<S, O>, line: &[u8], number: u64) -> (u64, u64)
     ensures code { result.0 ≡ (line_step (rule_of O.keyed O.compared) line.now number

@@ -38,7 +38,7 @@ pub struct BadLine(pub u64);
 
 impl BadLine {
     /// The number of this error, which is 12, and its line.
-    // The project's answers are pairs of a code and a figure, and that of a bad text is 12 and the line.
+    // A pair of a code and a figure, as each call of an index answers, so that whoever shows answers shows one kind.
     pub fn answer(self) -> (u64, u64)
         ensures { result ≡ answer_of self }
     {
