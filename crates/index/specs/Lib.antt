@@ -5,3 +5,4 @@ pub mod Turns
 pub mod Parents
 pub mod Pairs
 pub mod Sweeps
+pub mod Tickets

@@ -11,7 +11,9 @@ mod raise;
 mod splits;
 mod starts;
 mod sweep;
+mod tickets;
 mod turns;
 mod upkeep;
 
 pub use index::Index;
+pub use tickets::Ticket;

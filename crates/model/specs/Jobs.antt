@@ -1,5 +1,5 @@
 -- The jobs that a history finished, key by key: the same jobs have the same answers.
-use Rattle.std.specs.Prelude.{◌≡◌, Bool, true, cond, ◌&&◌, List, [], ◌∷◌, ◌++◌, map, Some, None, Option, nat_le, nat_lt}
+use Rattle.std.specs.Prelude.{◌≡◌, ℕ, Bool, true, cond, ◌&&◌, List, [], ◌∷◌, ◌++◌, map, Some, None, Option, nat_le, nat_lt}
 use Rattle.order.specs.declared.keys.Key.{Key}
 use Rattle.order.specs.Laws.{Lawful}
 use Rattle.model.specs.declared.jobs.Kind.TheVariants.{Enter}
@@ -17,9 +17,13 @@ pub record Finished : Type 0 where
   pub task : Task
   pub answer : Answer
 
--- codes 23 to 27 finish a job
+-- codes 23 to 27 end a job
+abbrev pub ends_job : ℕ → Bool
+ends_job n = nat_le 23 n && nat_le n 27
+
+-- the answer finishes the job of a turn
 abbrev pub finishes : Answer → Bool
-finishes a = nat_le 23 (code a) && nat_le (code a) 27
+finishes a = ends_job (code a)
 
 -- a console's job and the answer of its turn
 abbrev pub done_at : Option Job → Answer → List Finished

@@ -2,6 +2,7 @@
 ghost use Rattle.std.specs.Prelude.{◌≡◌};
 ghost use Rattle.model.specs.declared.answers.Refusal.TheVariants.{BadTask};
 ghost use Rattle.model.specs.Answers.{code, figure};
+ghost use Rattle.model.specs.Jobs.{finishes};
 
 use crate::jobs::NoKind;
 
@@ -99,6 +100,16 @@ impl Refusal {
 }
 
 impl Done {
+    /// Whether this ends the job of a turn: 23 to 27.
+    pub fn ends_job(self) -> bool
+        ensures { result ≡ finishes (Ok self) }
+    {
+        matches!(
+            self,
+            Done::Found(_) | Done::Absent | Done::Entered | Done::Held(_) | Done::Struck(_)
+        )
+    }
+
     fn pair(self) -> (u64, u64)
         ensures code { result.0 ≡ code (Ok self) }
         ensures figure { result.1 ≡ figure (Ok self) }

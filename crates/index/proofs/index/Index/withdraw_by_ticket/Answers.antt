@@ -1,0 +1,8 @@
+use Rattle.model.proofs.CallPromises.{called}
+use Rattle.index.proofs.Refusals.{kept_below_20}
+use Rattle.index.proofs.index.Index.withdraw_by_ticket.Goals as goal
+
+pub returns-clause-called : goal.returns-clause-called
+returns-clause-called g c =
+    let step = c.withdraw_step-answer.ensures in
+    called _ g.met.O.Order.lawful _ _ _ step.state _ _ _ step.answer c.pair.ensures.code c.pair.ensures.figure
