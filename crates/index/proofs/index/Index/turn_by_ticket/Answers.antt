@@ -1,5 +1,4 @@
 use Rattle.model.proofs.CallPromises.{called, ends_alone}
-use Rattle.index.proofs.Refusals.{kept_below_20}
 use Rattle.index.proofs.index.Index.turn_by_ticket.Goals as goal
 
 pub returns-clause-called : goal.returns-clause-called
