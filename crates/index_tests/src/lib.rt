@@ -8,4 +8,6 @@ mod garbage;
 #[cfg(test)]
 mod loads;
 #[cfg(test)]
+mod tickets;
+#[cfg(test)]
 mod truck_seven;
