@@ -1,5 +1,5 @@
 //! Pages read off a store and written to it. Page p is the words from 64 p on, and is there if the store has all 64.
-ghost use Rattle.std.specs.Prelude.{◌≡◌, ◌+◌, ◌*◌, ◌^◌, ◌<◌, length, slice_index};
+ghost use Rattle.std.specs.Prelude.{◌≡◌, false, ◌+◌, ◌*◌, ◌^◌, ◌<◌, length, slice_index};
 ghost use Rattle.order.specs.Refusals.{JustWhere};
 ghost use Rattle.page.specs.Buffers.{page_of, head_of, can_read, put_if_there};
 ghost use Rattle.page.specs.Pages.{words_of, head_words, is_there, page_at, page_run};
@@ -53,12 +53,14 @@ fn load<S: Store>(store: &S, page: u64) -> Option<[u64; PAGE_WORDS]>
     Some(loaded)
 }
 
-// Puts 64 words in the place of a page's, and says whether it is there. If it is not, nothing changes.
+// Puts 64 words in the place of a page's, and says whether it is there. If it is not, nothing changes, the store itself included.
 fn save<S: Store>(store: &mut S, page: u64, from: &[u64; PAGE_WORDS]) -> bool
     ensures said { result ≡ is_there (S.words store.old) page }
     ensures saved { S.words store.new
         ≡ put_if_there (S.words store.old) page from.now }
     ensures long { length (S.words store.new) ≡ length (S.words store.old) }
+    ensures kept { result ≡ false → store.new ≡ store.old }
+    ensures tied { S.lenders store.new ≡ S.lenders store.old }
 {
     let Some(place) = place_of(store, page) else {
         return false;
@@ -78,22 +80,26 @@ pub fn read_page<S: Store>(store: &S, page: u64) -> Option<PageBuf>
     PageBuf::try_from(&loaded).ok()
 }
 
-/// Writes a page, and says whether it is there. If it is not, nothing changes.
+/// Writes a page, and says whether it is there. If it is not, nothing changes, the store itself included.
 pub fn write_page<S: Store>(store: &mut S, page: u64, buf: &PageBuf) -> bool
     ensures said { result ≡ is_there (S.words store.old) page }
     ensures written { S.words store.new
         ≡ put_if_there (S.words store.old) page (words_of (page_of buf.now)) }
     ensures long { length (S.words store.new) ≡ length (S.words store.old) }
+    ensures kept { result ≡ false → store.new ≡ store.old }
+    ensures tied { S.lenders store.new ≡ S.lenders store.old }
 {
     save(store, page, &buf.into())
 }
 
-/// Writes page 0, and says whether it is there. If it is not, nothing changes.
+/// Writes page 0, and says whether it is there. If it is not, nothing changes, the store itself included.
 pub fn write_head<S: Store>(store: &mut S, head: HeadBuf) -> bool
     ensures said { result ≡ is_there (S.words store.old) 0 }
     ensures written { S.words store.new
         ≡ put_if_there (S.words store.old) 0 (head_words (head_of head)) }
     ensures long { length (S.words store.new) ≡ length (S.words store.old) }
+    ensures kept { result ≡ false → store.new ≡ store.old }
+    ensures tied { S.lenders store.new ≡ S.lenders store.old }
 {
     save(store, 0, &head.into())
 }

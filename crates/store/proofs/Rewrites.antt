@@ -84,12 +84,12 @@ module _ (bytes : List ℕ) (n k word : ℕ) (within : k < n) (lines : LinesTo b
 -- the line of a word is laid over the line k of a text, each of whose first n lines is one
 pub record Rewritten (bytes after : List ℕ) (n k word : ℕ) : Type 0 where
   pub laid : after ≡ overlay bytes (21 * k) (word_line word)
-  pub whole : 21 * n ≤ length after
+  pub whole : 21 * n ≡ length after
   pub formed : LinesTo after n
   pub words : words_to after n ≡ set (words_to bytes n) k word
 
 -- what a write of a word leaves of a text, if it goes to the part that the line k is
-pub rewritten : (bytes part : List ℕ) (n k word start end : ℕ) (r : Bool) → k < n → 21 * n ≤ length bytes
+pub rewritten : (bytes part : List ℕ) (n k word start end : ℕ) (r : Bool) → k < n → 21 * n ≡ length bytes
     → LinesTo bytes n → Small word → start ≡ 21 * k → end ≡ 21 * k + 21
     → r ≡ eqb (length (take (end - start) (drop start bytes))) 21
     → part ≡ cond r (word_line word) (take (end - start) (drop start bytes))

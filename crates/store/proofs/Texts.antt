@@ -213,6 +213,14 @@ text_from bytes (suc n) i l lines =
     let whole = take-append-drop 21 (drop (21 * i) bytes) in
     cc
 
+-- where there are lines, and they are all of the text, the bytes are the text of their words
+pub text_from_lines : (bytes : List ℕ) (n : ℕ) → (0 < n → 21 * n ≡ length bytes) → LinesTo bytes n → 0 < n
+    → bytes ≡ text_of (words_to bytes n)
+unfolding words_to
+text_from_lines bytes n whole lines some =
+    let all = whole some in
+    sym (text_from bytes n 0 (omega arith) (λ i h. lines i (omega arith)))
+
 -- from text to words and back
 text_only : (bytes : List ℕ) → InForm bytes → (text_of (words_in bytes) ≡ bytes) × AllByRecursion Small (words_in bytes)
 unfolding words_to

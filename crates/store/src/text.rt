@@ -1,19 +1,20 @@
 //! A store over a caller's text, each word a line of 21 bytes.
-ghost use Rattle.std.specs.Prelude.{◌≡◌, ◌+◌, ◌*◌, ◌≤◌, [], length, if◌then◌else◌, Some, None, nat_lt, slice_set};
+ghost use Rattle.std.specs.Prelude.{◌≡◌, ◌+◌, ◌*◌, ◌<◌, [], ◌∷◌, false, length, if◌then◌else◌, Some, None, nat_lt, slice_set};
 ghost use Rattle.store.specs.Overlay.{overlay};
-ghost use Rattle.store.specs.Text.{word_line, InForm, LinesTo, words_to, words_in, OneTextForm};
+ghost use Rattle.store.specs.Text.{word_line, text_of, InForm, LinesTo, words_to, words_in, OneTextForm};
 
 use crate::Store;
 use crate::form::{LINE, read_word, test_text, write_word};
 use std::ops::Range;
 
 /// A store whose words are the lines of a caller's text.
-// `lines` beside the bytes: it is 0 for a text that is not in form, and tested once.
+// `lines` beside the bytes: it is 0 for a text that is not in form, and tested once. Where there are any, they are all of
+// the text.
 #[derive(Debug, Drop)]
 pub struct TextStore<'a> {
     bytes: &'a mut [u8],
     lines: usize,
-    ghost whole: { 21 * lines ≤ length bytes.now },
+    ghost whole: { 0 < lines → 21 * lines ≡ length bytes.now },
     ghost formed: { LinesTo bytes.now lines },
 }
 
@@ -33,9 +34,12 @@ impl<'a> TextStore<'a> {
         TextStore { bytes, lines }
     }
 
-    /// The bytes of the text as they are now.
+    /// The bytes of the text as they are now: the text of the store's words, if it has any.
+    #[tactic(auto, using(crate::proofs::Texts::text_from_lines))]
     pub fn bytes(&self) -> &[u8]
-        ensures { result.now ≡ self.now.bytes.now }
+        ensures same { result.now ≡ self.now.bytes.now }
+        ensures text { 0 < self.now.lines →
+            result.now ≡ text_of (words_to self.now.bytes.now self.now.lines) }
     {
         &*self.bytes
     }
@@ -54,6 +58,8 @@ impl<'a> TextStore<'a> {
 
 impl Store for TextStore<'_> {
     ghost words = { λ s. words_to s.bytes.now s.lines };
+
+    ghost lenders = { λ s. s.bytes.ghost_name ∷ [] };
 
     #[tactic(auto, using(crate::proofs::Texts::length_words))]
     fn length(&self) -> u64 {
@@ -74,7 +80,8 @@ impl Store for TextStore<'_> {
         ensures laid { self.new.bytes.now
             ≡ (if result then overlay self.old.bytes.now (21 * at) (word_line word)
             else self.old.bytes.now) }
-        ensures tied { self.new.bytes.ghost_name ≡ self.old.bytes.ghost_name }
+        ensures kept { result ≡ false → self.new ≡ self.old }
+        ensures tied { self.new.bytes.ghost_name ∷ [] ≡ self.old.bytes.ghost_name ∷ [] }
     {
         match self.line(at) {
             Some(line) => write_word(&mut self.bytes[line], word),

@@ -1,5 +1,5 @@
 //! A store over a caller's words.
-ghost use Rattle.std.specs.Prelude.{◌≡◌, length, nat_lt, slice_set};
+ghost use Rattle.std.specs.Prelude.{◌≡◌, [], ◌∷◌, false, length, nat_lt, slice_set};
 
 use crate::Store;
 
@@ -29,6 +29,8 @@ impl<'a> WordStore<'a> {
 impl Store for WordStore<'_> {
     ghost words = { λ s. s.words.now };
 
+    ghost lenders = { λ s. s.words.ghost_name ∷ [] };
+
     fn length(&self) -> u64 {
         self.words.len() as u64
     }
@@ -40,7 +42,8 @@ impl Store for WordStore<'_> {
     fn write(&mut self, at: u64, word: u64) -> bool
         ensures said { result ≡ nat_lt at (length self.old.words.now) }
         ensures written { self.new.words.now ≡ slice_set self.old.words.now at word }
-        ensures tied { self.new.words.ghost_name ≡ self.old.words.ghost_name }
+        ensures kept { result ≡ false → self.new ≡ self.old }
+        ensures tied { self.new.words.ghost_name ∷ [] ≡ self.old.words.ghost_name ∷ [] }
     {
         // what `get_mut` lends would leave the proof nothing of the words
         let i = at as usize;

@@ -7,9 +7,6 @@ use store::Store;
 use store::text::TextStore;
 use store::words::WordStore;
 
-// `put_word` and `put_line`, and no one function over any store: it would take the store by value, and leave its caller
-// nothing of what was lent.
-
 /// Puts a word into words through a store over them.
 pub fn put_word(words: &mut [u64], at: u64, word: u64) -> bool
     ensures said { result ≡ nat_lt at (length words.old) }
@@ -28,4 +25,20 @@ pub fn put_line(text: &mut [u8], at: u64, word: u64) -> bool
 {
     let mut store = TextStore::open(text);
     store.write(at, word)
+}
+
+// Puts a word into any store, which holds on to what it was lent.
+fn put<S: Store>(store: &mut S, at: u64, word: u64)
+    ensures written { S.words store.new ≡ slice_set (S.words store.old) at word }
+    ensures tied { S.lenders store.new ≡ S.lenders store.old }
+{
+    store.write(at, word);
+}
+
+/// Puts a word into words by code that takes any store.
+pub fn put_word_in_any(words: &mut [u64], at: u64, word: u64)
+    ensures { words.new ≡ slice_set words.old at word }
+{
+    let mut over_words = WordStore::new(words);
+    put(&mut over_words, at, word);
 }

@@ -18,13 +18,13 @@ line_rewritten c =
     let within : c.args.at < s.lines = grind (arith, nat_tests) in
     let from : line.start ≡ 21 * c.args.at = grind (arith, nat_tests) in
     let to : line.end ≡ 21 * c.args.at + 21 = grind (arith, nat_tests) in
-    rewritten s.bytes.now _ s.lines c.args.at c.args.word line.start line.end _ within s.whole s.formed
+    rewritten s.bytes.now _ s.lines c.args.at c.args.word line.start line.end _ within (s.whole (omega arith)) s.formed
     (omega arith) from to c.write_word.ensures.said c.write_word.ensures.written
 
 pub invariant_of-self : goal.invariant_of-self
 invariant_of-self c =
     let after = (line_rewritten (goal.at.invariant_of-self c).After-write_word).1 in
-    record { whole = after.whole; formed = after.formed }
+    record { whole = λ some. after.whole; formed = after.formed }
 
 pub returns-in-Some : goal.returns-in-Some
 returns-in-Some c =
@@ -35,5 +35,6 @@ returns-in-Some c =
       said = grind (arith, nat_tests);
       written = after.1.words;
       laid = rw after.0 after.1.laid;
+      kept = λ is. search after.0;
       tied = refl;
     }
