@@ -1,9 +1,8 @@
 -- What words 0 and 3 of a page tell.
-use Rattle.std.proofs.Common.{◌≡◌, ℕ, ◌+◌, ◌*◌, true, get_or, Some, None, Option, sym, ap, ◌∙◌, arith}
+use Rattle.std.proofs.Common.{◌≡◌, ℕ, ◌+◌, ◌*◌, get_or, Some, None, Option, sym, ap, ◌∙◌, arith}
 use Rattle.std.proofs.lemmas.Bool.{cond-true, cond-false}
 use Rattle.std.specs.Prelude.{unwrap_or}
 use Rattle.order.specs.Refusals.{JustWhere}
-use Rattle.page.specs.declared.pages.PageState.{PageState}
 use Rattle.page.specs.declared.pages.PageState.TheVariants.{Damaged}
 use Rattle.page.specs.Pages.{state_of as state_in, Page, page_at}
 use Rattle.page.proofs.Layouts.{word_run}

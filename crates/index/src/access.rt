@@ -94,6 +94,7 @@ impl<S: Store, O: Order> Index<S, O> {
         ensures state { state_of S.words self.new
             ≡ write page (page_of buf.now) (state_of S.words self.old) }
         ensures long { length (S.words self.new.store) ≡ length (S.words self.old.store) }
+        ensures tied { S.lenders self.new.store ≡ S.lenders self.old.store }
     {
         write_page(&mut self.store, page, buf);
     }
@@ -101,7 +102,8 @@ impl<S: Store, O: Order> Index<S, O> {
     // Writes page 0, which is there.
     pub(crate) fn save_head(&mut self, free: u64, root: u64)
         requires { is_there (S.words self.old.store) 0 ≡ true }
-        ensures { state_of S.words self.new ≡ write_head free root (state_of S.words self.old) }
+        ensures state { state_of S.words self.new ≡ write_head free root (state_of S.words self.old) }
+        ensures tied { S.lenders self.new.store ≡ S.lenders self.old.store }
     {
         let head = HeadBuf {
             pages: self.pages,

@@ -2,7 +2,7 @@
 //!
 //! They take and give numbers, as a console sends and shows them: what is out of range is refused here, and not before.
 //! Behind them an answer is a `Result`.
-ghost use Rattle.std.specs.Prelude.{◌≡◌, ◌<◌};
+ghost use Rattle.std.specs.Prelude.{◌≡◌, ◌<◌, ◌≢◌};
 ghost use Rattle.model.specs.CallPromises.{AttachCalled, Called, EndsAlone, FormatCalled};
 ghost use Rattle.model.specs.Calls.{begin as begin_call, turn as turn_call, withdraw as withdraw_call};
 ghost use Rattle.model.specs.Calls.{post as post_call, merge as merge_call, raise as raise_call, sweep as sweep_call};
@@ -20,6 +20,7 @@ impl<S: Store, O: Order> Index<S, O> {
         ensures called { FormatCalled fill (state_of S.words self.old)
             result.0 result.1 (state_of S.words self.new) }
         ensures kept { result.0 < 20 → self.new.store ≡ self.old.store }
+        ensures tied { S.lenders self.new.store ≡ S.lenders self.old.store }
     {
         pair(self.format_step(fill))
     }
@@ -30,6 +31,7 @@ impl<S: Store, O: Order> Index<S, O> {
         ensures called { AttachCalled (state_of S.words self.old)
             result.0 result.1 (state_of S.words self.new) }
         ensures kept { self.new.store ≡ self.old.store }
+        ensures tied { S.lenders self.new.store ≡ S.lenders self.old.store }
     {
         pair(self.attach_step())
     }
@@ -39,7 +41,8 @@ impl<S: Store, O: Order> Index<S, O> {
     pub fn begin(&mut self, console: u64, kind: u64, key: Key, value: u64) -> (u64, u64)
         ensures called { Called (rule_of O.keyed O.compared) (begin_call console kind key value)
             (state_of S.words self.old) result.0 result.1 (state_of S.words self.new) }
-        ensures kept { result.0 < 20 → self.new.store ≡ self.old.store }
+        ensures kept { self.new.store ≡ self.old.store }
+        ensures tied { S.lenders self.new.store ≡ S.lenders self.old.store }
     {
         pair(self.begin_step(console, kind, key, value))
     }
@@ -52,7 +55,8 @@ impl<S: Store, O: Order> Index<S, O> {
         ensures called { Called (rule_of O.keyed O.compared) (turn_call console) (state_of S.words self.old)
             result.0 result.1 (state_of S.words self.new) }
         ensures alone { EndsAlone (rule_of O.keyed O.compared) console (state_of S.words self.old) }
-        ensures kept { result.0 < 20 → self.new.store ≡ self.old.store }
+        ensures kept { result.0 ≢ 22 → result.0 ≢ 25 → result.0 ≢ 27 → self.new.store ≡ self.old.store }
+        ensures tied { S.lenders self.new.store ≡ S.lenders self.old.store }
     {
         pair(self.turn_step(console))
     }
@@ -62,7 +66,8 @@ impl<S: Store, O: Order> Index<S, O> {
     pub fn withdraw(&mut self, console: u64) -> (u64, u64)
         ensures called { Called (rule_of O.keyed O.compared) (withdraw_call console) (state_of S.words self.old)
             result.0 result.1 (state_of S.words self.new) }
-        ensures kept { result.0 < 20 → self.new.store ≡ self.old.store }
+        ensures kept { self.new.store ≡ self.old.store }
+        ensures tied { S.lenders self.new.store ≡ S.lenders self.old.store }
     {
         pair(self.withdraw_step(console))
     }
@@ -74,6 +79,7 @@ impl<S: Store, O: Order> Index<S, O> {
         ensures called { Called (rule_of O.keyed O.compared) (post_call page) (state_of S.words self.old)
             result.0 result.1 (state_of S.words self.new) }
         ensures kept { result.0 < 20 → self.new.store ≡ self.old.store }
+        ensures tied { S.lenders self.new.store ≡ S.lenders self.old.store }
     {
         pair(self.post_step(page))
     }
@@ -84,6 +90,7 @@ impl<S: Store, O: Order> Index<S, O> {
         ensures called { Called (rule_of O.keyed O.compared) (merge_call page) (state_of S.words self.old)
             result.0 result.1 (state_of S.words self.new) }
         ensures kept { result.0 < 20 → self.new.store ≡ self.old.store }
+        ensures tied { S.lenders self.new.store ≡ S.lenders self.old.store }
     {
         pair(self.merge_step(page))
     }
@@ -94,6 +101,7 @@ impl<S: Store, O: Order> Index<S, O> {
         ensures called { Called (rule_of O.keyed O.compared) raise_call (state_of S.words self.old)
             result.0 result.1 (state_of S.words self.new) }
         ensures kept { result.0 < 20 → self.new.store ≡ self.old.store }
+        ensures tied { S.lenders self.new.store ≡ S.lenders self.old.store }
     {
         pair(self.raise_step())
     }
@@ -104,6 +112,7 @@ impl<S: Store, O: Order> Index<S, O> {
         ensures called { Called (rule_of O.keyed O.compared) sweep_call (state_of S.words self.old)
             result.0 result.1 (state_of S.words self.new) }
         ensures kept { result.0 < 20 → self.new.store ≡ self.old.store }
+        ensures tied { S.lenders self.new.store ≡ S.lenders self.old.store }
     {
         pair(self.sweep_step())
     }

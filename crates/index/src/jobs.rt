@@ -2,7 +2,7 @@
 ghost use Rattle.std.specs.Prelude.{◌≡◌, ◌<◌, ◌≤◌, MatchResult};
 ghost use Rattle.model.specs.declared.answers.Refusal.TheVariants.{NoConsole};
 ghost use Rattle.model.specs.Turns.{begin, withdraw, job_at};
-ghost use Rattle.index.specs.Indexes.{state_of, rule_of, KeptIfRefused};
+ghost use Rattle.index.specs.Indexes.{state_of, rule_of};
 
 use crate::consoles::CONSOLES;
 use crate::index::Index;
@@ -30,7 +30,7 @@ impl<S: Store, O: Order> Index<S, O> {
             ≡ (begin (rule_of O.keyed O.compared) console kind key value (state_of S.words self.old)).answer }
         ensures state { state_of S.words self.new
             ≡ (begin (rule_of O.keyed O.compared) console kind key value (state_of S.words self.old)).after }
-        ensures kept { KeptIfRefused result self.old.store self.new.store }
+        ensures kept { self.new.store ≡ self.old.store }
     {
         if self.job_of(console)?.is_some() {
             return Err(Refusal::Busy);
@@ -52,7 +52,7 @@ impl<S: Store, O: Order> Index<S, O> {
         ensures answer { result ≡ (withdraw console (state_of S.words self.old)).answer }
         ensures state { state_of S.words self.new
             ≡ (withdraw console (state_of S.words self.old)).after }
-        ensures kept { KeptIfRefused result self.old.store self.new.store }
+        ensures kept { self.new.store ≡ self.old.store }
     {
         let job = self.job_of(console)?.ok_or(Refusal::Idle)?;
         self.consoles.assign(console, None);

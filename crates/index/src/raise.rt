@@ -45,9 +45,10 @@ impl<S: Store, O: Order> Index<S, O> {
     fn put_root_over(&mut self, root: u64, old: &PageBuf, new: u64, next: u64)
         requires level { old.now.level < 4095 }
         requires there { is_there (S.words self.old.store) new ≡ true }
-        ensures { state_of S.words self.new
+        ensures state { state_of S.words self.new
             ≡ write_head next new
             (write new (root_over root (page_of old.now)) (state_of S.words self.old)) }
+        ensures tied { S.lenders self.new.store ≡ S.lenders self.old.store }
     {
         self.save(new, &root_over(root, old));
         self.save_head(next, new);
@@ -58,6 +59,7 @@ impl<S: Store, O: Order> Index<S, O> {
         ensures answer { result ≡ (raise (state_of S.words self.old)).answer }
         ensures state { state_of S.words self.new ≡ (raise (state_of S.words self.old)).after }
         ensures kept { KeptIfRefused result self.old.store self.new.store }
+        ensures tied { S.lenders self.new.store ≡ S.lenders self.old.store }
     {
         let root = self.root();
         let old = self.page_below_top(root).ok_or(Refusal::Unreadable(root))?;

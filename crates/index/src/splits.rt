@@ -71,6 +71,7 @@ impl<S: Store, O: Order> Index<S, O> {
         ensures state { state_of S.words self.new
             ≡ (split_full page (page_of buf) (state_of S.words self.old)).after }
         ensures kept { KeptIfRefused result self.old.store self.new.store }
+        ensures tied { S.lenders self.new.store ≡ S.lenders self.old.store }
     {
         let (new, next) = self.free_page()?;
         let root = self.root();

@@ -79,8 +79,9 @@ pub(crate) fn free_page_to(next: u64) -> PageBuf
 // Lays the free chain through the pages behind the root, in rising order. The loop counts pages, which are no slice.
 fn lay_free_chain<S: Store>(store: &mut S, pages: u64)
     requires { (2 ≤ pages) × (pages ≤ 4096) × (64 * pages ≤ length (S.words store.old)) }
-    ensures { S.words store.new
+    ensures laid { S.words store.new
         ≡ free_chain pages (range_with_len 2 (pages - 2)) (S.words store.old) }
+    ensures tied { S.lenders store.new ≡ S.lenders store.old }
 {
     for page in FIRST_FREE..pages {
         write_page(store, page, &free_page_to(next_of(pages, page)));
@@ -90,7 +91,8 @@ fn lay_free_chain<S: Store>(store: &mut S, pages: u64)
 // Writes all pages of a new index.
 fn lay_pages<S: Store>(store: &mut S, pages: u64, fill: u64)
     requires { (2 ≤ pages) × (pages ≤ 4096) × (64 * pages ≤ length (S.words store.old)) }
-    ensures { S.words store.new ≡ format_words pages fill (S.words store.old) }
+    ensures laid { S.words store.new ≡ format_words pages fill (S.words store.old) }
+    ensures tied { S.lenders store.new ≡ S.lenders store.old }
 {
     let head = HeadBuf {
         pages,
@@ -123,6 +125,7 @@ impl<S: Store, O: Order> Index<S, O> {
         ensures state { state_of S.words self.new
             ≡ (format fill (state_of S.words self.old)).after }
         ensures kept { KeptIfRefused result self.old.store self.new.store }
+        ensures tied { S.lenders self.new.store ≡ S.lenders self.old.store }
     {
         let pages = pages_in(&self.store)?;
         if !is_fill(fill) {

@@ -58,7 +58,8 @@ impl<S: Store, O: Order> Index<S, O> {
     // Puts a page that is there at the head of the free chain.
     fn give_back(&mut self, page: u64)
         requires { is_there (S.words self.old.store) page ≡ true }
-        ensures { state_of S.words self.new ≡ give_back page (state_of S.words self.old) }
+        ensures state { state_of S.words self.new ≡ give_back page (state_of S.words self.old) }
+        ensures tied { S.lenders self.new.store ≡ S.lenders self.old.store }
     {
         let root = self.root();
         let next = read_free(&self.store);
@@ -73,6 +74,7 @@ impl<S: Store, O: Order> Index<S, O> {
         ensures state { state_of S.words self.new
             ≡ give_back_all (all_unreached (state_of S.words self.old)) (state_of S.words self.old) }
         ensures kept { result ≡ 0 → self.new.store ≡ self.old.store }
+        ensures tied { S.lenders self.new.store ≡ S.lenders self.old.store }
     {
         let mut freed = 0;
         for (page, is_marked) in marked[..self.pages as usize].iter().enumerate() {
@@ -89,6 +91,7 @@ impl<S: Store, O: Order> Index<S, O> {
         ensures answer { result ≡ (sweep (state_of S.words self.old)).answer }
         ensures state { state_of S.words self.new ≡ (sweep (state_of S.words self.old)).after }
         ensures kept { KeptIfRefused result self.old.store self.new.store }
+        ensures tied { S.lenders self.new.store ≡ S.lenders self.old.store }
     {
         let marked = self.unreached();
         match self.free_marked(&marked) {

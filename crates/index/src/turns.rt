@@ -9,7 +9,7 @@ ghost use Rattle.model.specs.Turns.{turn, turn_state, is_past, child_of, job_at}
 ghost use Rattle.model.specs.declared.answers.Done.TheVariants.{Moved, Entered, Struck};
 ghost use Rattle.index.specs.Jobs.{sent_to};
 ghost use Rattle.index.specs.Turns.{entered, struck};
-ghost use Rattle.index.specs.Indexes.{state_of, rule_of, KeptIfRefused};
+ghost use Rattle.index.specs.Indexes.{state_of, rule_of, KeptUnlessWritten};
 ghost use Rattle.index.specs.Searches.{PlaceFor, TakenAt};
 
 use crate::index::Index;
@@ -103,6 +103,7 @@ impl<S: Store, O: Order> Index<S, O> {
         ensures state { state_of S.words self.new
             ≡ with_job console (sent_to page (job_at (state_of S.words self.old) console))
             (state_of S.words self.old) }
+        ensures kept { self.new.store ≡ self.old.store }
     {
         self.consoles.send(console, page);
         Done::Moved(page)
@@ -113,6 +114,7 @@ impl<S: Store, O: Order> Index<S, O> {
         ensures done { result ≡ done }
         ensures state { state_of S.words self.new
             ≡ with_job console None (state_of S.words self.old) }
+        ensures kept { self.new.store ≡ self.old.store }
     {
         self.consoles.assign(console, None);
         done
@@ -125,6 +127,7 @@ impl<S: Store, O: Order> Index<S, O> {
         ensures done { result ≡ Entered }
         ensures state { state_of S.words self.new
             ≡ entered (rule_of O.keyed O.compared) console job (page_of leaf) (state_of S.words self.old) }
+        ensures tied { S.lenders self.new.store ≡ S.lenders self.old.store }
     {
         let entry = Entry {
             key: job.task.key,
@@ -142,6 +145,7 @@ impl<S: Store, O: Order> Index<S, O> {
         ensures done { result ≡ Struck value }
         ensures state { state_of S.words self.new
             ≡ struck (rule_of O.keyed O.compared) console job (page_of leaf) (state_of S.words self.old) }
+        ensures tied { S.lenders self.new.store ≡ S.lenders self.old.store }
     {
         let mut without_entry = leaf;
         take_out::<O>(&mut without_entry.entries, job.task.key);
@@ -160,7 +164,8 @@ impl<S: Store, O: Order> Index<S, O> {
         ensures state { state_of S.words self.new
             ≡ (turn_state (rule_of O.keyed O.compared) console job (page_of page) page.state
             (state_of S.words self.old)).after }
-        ensures kept { KeptIfRefused result self.old.store self.new.store }
+        ensures kept { KeptUnlessWritten result self.old.store self.new.store }
+        ensures tied { S.lenders self.new.store ≡ S.lenders self.old.store }
     {
         let key = job.task.key;
         let past_end = is_past::<O>(&page, key);
@@ -186,7 +191,8 @@ impl<S: Store, O: Order> Index<S, O> {
             ≡ (turn (rule_of O.keyed O.compared) console (state_of S.words self.old)).answer }
         ensures state { state_of S.words self.new
             ≡ (turn (rule_of O.keyed O.compared) console (state_of S.words self.old)).after }
-        ensures kept { KeptIfRefused result self.old.store self.new.store }
+        ensures kept { KeptUnlessWritten result self.old.store self.new.store }
+        ensures tied { S.lenders self.new.store ≡ S.lenders self.old.store }
     {
         let job = self.job_of(console)?.ok_or(Refusal::Idle)?;
         let page = self.page(job.page).ok_or(Refusal::Unreadable(job.page))?;

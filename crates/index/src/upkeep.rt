@@ -164,6 +164,7 @@ impl<S: Store, O: Order> Index<S, O> {
         ensures state { state_of S.words self.new
             ≡ children_merged left right (state_of S.words self.old) }
         ensures long { length (S.words self.new.store) ≡ length (S.words self.old.store) }
+        ensures tied { S.lenders self.new.store ≡ S.lenders self.old.store }
     {
         let first = self.page(left).unwrap();
         let second = self.page(right).unwrap();
@@ -192,6 +193,7 @@ impl<S: Store, O: Order> Index<S, O> {
             ≡ (merge_at page (page_of parent.now) (Some at) (state_of S.words self.old)).answer }
         ensures state { state_of S.words self.new
             ≡ (merge_at page (page_of parent.now) (Some at) (state_of S.words self.old)).after }
+        ensures tied { S.lenders self.new.store ≡ S.lenders self.old.store }
     {
         let next = at + 1;
         let (left, right) = (child_at(parent, at), child_at(parent, next));
@@ -206,6 +208,7 @@ impl<S: Store, O: Order> Index<S, O> {
         ensures state { state_of S.words self.new
             ≡ (merge page (state_of S.words self.old)).after }
         ensures kept { KeptIfRefused result self.old.store self.new.store }
+        ensures tied { S.lenders self.new.store ≡ S.lenders self.old.store }
     {
         let parent = self.parent(page)?;
         let at = self.merge_pair(&parent).ok_or(Refusal::Nothing)?;
@@ -251,6 +254,7 @@ impl<S: Store, O: Order> Index<S, O> {
             ≡ (post_at (rule_of O.keyed O.compared) page (page_of parent.now) (Some at)
             (state_of S.words self.old)).after }
         ensures kept { KeptIfRefused result self.old.store self.new.store }
+        ensures tied { S.lenders self.new.store ≡ S.lenders self.old.store }
     {
         if parent.entries.len() as u64 >= self.fill {
             return self.split_full(page, *parent);
@@ -266,6 +270,7 @@ impl<S: Store, O: Order> Index<S, O> {
         ensures state { state_of S.words self.new
             ≡ (post (rule_of O.keyed O.compared) page (state_of S.words self.old)).after }
         ensures kept { KeptIfRefused result self.old.store self.new.store }
+        ensures tied { S.lenders self.new.store ≡ S.lenders self.old.store }
     {
         let parent = self.parent(page)?;
         let at = self.short_child(&parent).ok_or(Refusal::Nothing)?;

@@ -17,4 +17,5 @@ loop-page-preserved g c =
       ap length written ∙ length_bare w p (free_page_to (next_of n p)) (omega arith) room ∙ c.loop-page.invariant.0,
       written ∙ ap (λ v. put v p (free_page_to (next_of n p))) c.loop-page.invariant.1
           ∙ sym (chain_more n 2 (p - 2) (p + 1 - 2) p before (omega arith) (omega arith)),
+      c.write_page.ensures.tied ∙ c.loop-page.invariant.2,
     )

@@ -8,3 +8,4 @@ invariant-loop-page g l =
     (length (g.S.Store.words l.store) ≡ length (g.S.Store.words l.initial.store))
     × (g.S.Store.words l.store
     ≡ free_chain l.pages (range_with_len 2 (l.page - 2)) (g.S.Store.words l.initial.store))
+    × (g.S.Store.lenders l.store ≡ g.S.Store.lenders l.initial.store)

@@ -1,5 +1,5 @@
+use Rattle.std.proofs.Common.{ap}
 use Rattle.model.proofs.CallPromises.{called}
-use Rattle.index.proofs.Refusals.{kept_below_20}
 use Rattle.index.proofs.index.Index.begin.Goals as goal
 
 pub returns : goal.returns
@@ -8,5 +8,6 @@ returns g c =
     record {
       called =
           called _ g.met.O.Order.lawful _ _ _ step.state _ _ _ step.answer c.pair.ensures.code c.pair.ensures.figure;
-      kept = kept_below_20 _ _ step.kept c.pair.ensures.code;
+      kept = step.kept;
+      tied = ap g.S.Store.lenders step.kept;
     }

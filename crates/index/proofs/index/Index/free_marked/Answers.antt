@@ -22,14 +22,16 @@ loop-page-preserved g c =
       | then-is_marked w ↦ (
         subst (λ f. Freed s (p + 1) u f) (sym w.freed-is)
             (freed_one s t u p c.loop-page.freed (sym mark ∙ sym marks_taken ∙ w.if-is_marked.true) so.0
-            (ap (state_of words) w.self-is ∙ w.give_back.ensures)),
-        λ none. absurd (omega (arith, w.freed-is, none)),
+            (ap (state_of words) w.self-is ∙ w.give_back.ensures.state)),
+        (λ none. absurd (omega (arith, w.freed-is, none))),
+        ap (λ x. g.S.Store.lenders x.store) w.self-is ∙ w.give_back.ensures.tied ∙ so.2,
       )
       | else-is_marked w ↦ (
         subst (λ x. Freed s (p + 1) (state_of words x) c.if-is_marked.freed) (sym w.self-is)
             (subst (λ f. Freed s (p + 1) t f) (sym w.freed-is)
             (freed_kept s t p c.loop-page.freed (sym mark ∙ sym marks_taken ∙ w.if-is_marked.false) so.0)),
-        λ none. ap (λ x. x.store) w.self-is ∙ so.1 (sym w.freed-is ∙ none),
+        (λ none. ap (λ x. x.store) w.self-is ∙ so.1 (sym w.freed-is ∙ none)),
+        ap (λ x. g.S.Store.lenders x.store) w.self-is ∙ so.2,
       )
     ]
 
@@ -43,4 +45,5 @@ returns g c =
       count = so.count ∙ ap length all;
       state = so.given ∙ ap (λ ps. give_back_all ps s) all;
       kept = c.loop-page.invariant.1;
+      tied = c.loop-page.invariant.2;
     }

@@ -9,4 +9,5 @@ returns g c =
       called =
           called _ g.met.O.Order.lawful _ _ _ step.state _ _ _ step.answer c.pair.ensures.code c.pair.ensures.figure;
       kept = kept_below_20 _ _ step.kept c.pair.ensures.code;
+      tied = step.tied;
     }

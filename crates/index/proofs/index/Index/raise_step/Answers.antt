@@ -19,4 +19,4 @@ returns g c =
     let found = rw some at c.page_below_top.ensures in
     let outcome = raised s c.root-root.result (page_of c.in_ok-old.old) (Ok c.in_ok-new.new) c.root-root.ensures
     found.0 found.1 c.if-old-eq0.false c.in_ok-new.ensures.0 in
-    record { answer = search rules; state = search rules; kept = search rules }
+    record { answer = search rules; state = search rules; kept = search rules; tied = search rules }

@@ -1,5 +1,5 @@
 use Rattle.model.proofs.CallPromises.{called, ends_alone}
-use Rattle.index.proofs.Refusals.{kept_below_20}
+use Rattle.index.proofs.Refusals.{kept_but_22_25_27}
 use Rattle.index.proofs.index.Index.turn.Goals as goal
 
 pub returns : goal.returns
@@ -9,5 +9,6 @@ returns g c =
     record {
       called = called _ laws _ _ _ step.state _ _ _ step.answer c.pair.ensures.code c.pair.ensures.figure;
       alone = ends_alone _ laws _ _;
-      kept = kept_below_20 _ _ step.kept c.pair.ensures.code;
+      kept = kept_but_22_25_27 _ _ step.kept c.pair.ensures.code;
+      tied = step.tied;
     }
