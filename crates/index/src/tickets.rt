@@ -1,6 +1,6 @@
 //! The calls of a job by ticket, for our own modules: a ticket stands for a console's unfinished job, and the check
 //! refuses a program that lets one go, or that turns one whose job is finished.
-ghost use Rattle.std.specs.Prelude.{◌≡◌, ◌<◌, true, not, ◌==◌};
+ghost use Rattle.std.specs.Prelude.{◌≡◌, ◌≢◌, true, not, ◌==◌};
 ghost use Rattle.order.specs.Refusals.{JustWhere};
 ghost use Rattle.model.specs.CallPromises.{Called, EndsAlone};
 ghost use Rattle.model.specs.Calls.{begin as begin_call, turn as turn_call, withdraw as withdraw_call};
@@ -73,7 +73,8 @@ impl<S: Store, O: Order> Index<S, O> {
     ) -> ((u64, u64), Option<Ticket>)
         ensures called { Called (rule_of O.keyed O.compared) (begin_call console kind key value)
             (state_of S.words self.old) result.0.0 result.0.1 (state_of S.words self.new) }
-        ensures kept { result.0.0 < 20 → self.new.store ≡ self.old.store }
+        ensures kept { self.new.store ≡ self.old.store }
+        ensures tied { S.lenders self.new.store ≡ S.lenders self.old.store }
         ensures ticket { JustWhere (result.0.0 == 20) (IsOpen console) result.1 }
     {
         let answer = self.begin_step(console, kind, key, value);
@@ -90,7 +91,8 @@ impl<S: Store, O: Order> Index<S, O> {
         ensures called { Called (rule_of O.keyed O.compared) (turn_call (console_of ticket))
             (state_of S.words self.old) result.0.0 result.0.1 (state_of S.words self.new) }
         ensures alone { EndsAlone (rule_of O.keyed O.compared) (console_of ticket) (state_of S.words self.old) }
-        ensures kept { result.0.0 < 20 → self.new.store ≡ self.old.store }
+        ensures kept { result.0.0 ≢ 22 → result.0.0 ≢ 25 → result.0.0 ≢ 27 → self.new.store ≡ self.old.store }
+        ensures tied { S.lenders self.new.store ≡ S.lenders self.old.store }
         ensures ticket { JustWhere (not (ends_job result.0.0)) (λ left. left ≡ ticket) result.1 }
     {
         let answer = self.turn_step(ticket.console);
@@ -102,7 +104,8 @@ impl<S: Store, O: Order> Index<S, O> {
     pub fn withdraw_by_ticket(&mut self, ticket: Ticket) -> (u64, u64)
         ensures called { Called (rule_of O.keyed O.compared) (withdraw_call (console_of ticket))
             (state_of S.words self.old) result.0 result.1 (state_of S.words self.new) }
-        ensures kept { result.0 < 20 → self.new.store ≡ self.old.store }
+        ensures kept { self.new.store ≡ self.old.store }
+        ensures tied { S.lenders self.new.store ≡ S.lenders self.old.store }
     {
         let answer = self.withdraw_step(ticket.console);
         ticket.spend();
