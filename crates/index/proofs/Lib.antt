@@ -14,5 +14,3 @@ pub mod Merging
 pub mod Raising
 pub mod Marks
 pub mod Freeing
--- the public calls
-pub mod Refusals

@@ -9,10 +9,7 @@ ghost use Rattle.index.specs.Indexes.{state_of, is_page};
 
 use crate::index::Index;
 use order::Order;
-use page::{
-    HeadBuf, PAGE_WORDS, PageBuf, PageState, read_page, read_root, read_word, write_head,
-    write_page,
-};
+use page::{HeadBuf, PAGE_WORDS, PageBuf, PageState, read_page, read_root, write_head, write_page};
 use store::Store;
 
 pub(crate) const TOP_LEVEL: u64 = 4095;
@@ -69,8 +66,10 @@ impl<S: Store, O: Order> Index<S, O> {
         ensures { JustWhere (is_page (state_of S.words self.now) page)
             (λ w. w ≡ slice_index (S.words self.now.store) (64 * page + at)) result }
     {
-        self.has(page)
-            .then(|| read_word(&self.store, PAGE_WORDS as u64 * page + at))
+        if !self.has(page) {
+            return None;
+        }
+        self.store.read(PAGE_WORDS as u64 * page + at)
     }
 
     // What a page is used for: its word 0.

@@ -8,6 +8,7 @@ use std::marker::PhantomData;
 pub(crate) const MOST_PAGES: usize = 4096;
 
 /// An index over a store, under an order of keys.
+#[derive(Debug, Drop)]
 pub struct Index<S, O> {
     pub(crate) store: S,
     pub(crate) consoles: Consoles,

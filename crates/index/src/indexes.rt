@@ -31,6 +31,13 @@ impl<S: Store, O: Order> Index<S, O> {
         self.pages > 0
     }
 
+    /// The store, lent to be read.
+    pub fn store(&self) -> &S
+        ensures { result.now ≡ self.now.store }
+    {
+        &self.store
+    }
+
     /// Takes the index apart, and gives back its store.
     pub fn into_store(self) -> S
         ensures { result ≡ self.store }

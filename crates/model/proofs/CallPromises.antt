@@ -1,6 +1,7 @@
 -- The promises of one call follow from those of all histories.
-use Rattle.std.proofs.Common.{◌≡◌, ℕ, ◌<◌, ◌≤◌, false, leb, List, ◌∷◌, length, sym, ap, ◌∙◌, subst, inl, inr, arith}
+use Rattle.std.proofs.Common.{◌≡◌, ℕ, ◌<◌, ◌≤◌, true, false, leb, List, [], ◌∷◌, length, sym, refl, ap, ◌∙◌, subst, inl, inr, arith}
 use Rattle.std.proofs.lemmas.Bool.{cases_lt, cases_Bool, and_parts, leb-true, lt-ltb, le-ltb, cond-true, cond-false}
+use Rattle.std.specs.declared.cmp.Ordering.TheVariants.{Equal}
 use Rattle.model.specs.declared.answers.Refusal.TheVariants.{StoreTooSmall, NoFill}
 use Rattle.model.specs.Answers.{Answer, code, figure}
 use Rattle.model.specs.Entries.{KeyOrder}
@@ -13,7 +14,7 @@ use Rattle.model.specs.Soundness.{Sound}
 use Rattle.model.specs.Turns.{job_at}
 use Rattle.model.specs.Promises.{Laws, AsReference, turn_after, FinishedWithin}
 use Rattle.model.specs.CallPromises.{LikeReference, LikeOthers, SoundThen, EndsAlone, Called, FormatCalled}
-use Rattle.model.proofs.Histories.{format_made, answers_as_reference}
+use Rattle.model.proofs.Histories.{format_made, after_stands, stands_entries, answers_as_reference}
 use Rattle.model.proofs.SameAnswers.{same_answers}
 use Rattle.model.proofs.Soundness.{sound_after_all}
 use Rattle.model.proofs.AloneFinishes.{alone_within_pages}
@@ -93,15 +94,33 @@ format_starts fill before made20 = elim (cases_lt (length before.words) 128) [
     format_other : (n : ℕ) (s : State) → 128 ≤ length s.words → is_fill n ≡ false → format n s ≡ refused NoFill s
     format_other n s long other = cond-false _ _ _ (le-ltb (length s.words) 128 long) ∙ cond-false _ _ _ other
 
+-- the order under which all keys are the same
+abbrev same_keys : KeyOrder
+same_keys = record { keyed = λ _. true; compared = λ _ _. Equal }
+
+same_keys_laws : Laws same_keys
+same_keys_laws = record { itself = λ _ _. refl; exchange = λ _ _ _ _. refl; onward = λ _ _ _ _ _ _ _ _. refl }
+
+-- and that the index has no entries
+format_none : (fill : ℕ) (before : State) → code (format fill before).answer ≡ 20
+    → entries_of (format fill before).after ≡ []
+format_none fill before twenty =
+    let start = format_starts fill before twenty in
+    stands_entries same_keys_laws _ (after_stands same_keys_laws _ start [])
+
 -- all of it, for a format that takes its step
 pub format_called : (fill : ℕ) (before next : State) → next ≡ (format fill before).after
     → (a : Answer) (number shown : ℕ) → a ≡ (format fill before).answer → number ≡ code a → shown ≡ figure a
     → FormatCalled fill before number shown next
 format_called fill before next stepped a number shown answered is_code is_figure =
+    let made20 : number ≡ 20 → code (format fill before).answer ≡ 20 = λ twenty. sym (is_code ∙ ap code answered) ∙ twenty in
     record {
       coded = is_code ∙ ap code answered;
       figured = is_figure ∙ ap figure answered;
       state = stepped;
       starts = λ twenty. subst (λ (s : State). Starts (record { state = s; reference = empty })) (sym stepped)
-          (format_starts fill before (sym (is_code ∙ ap code answered) ∙ twenty));
+          (format_starts fill before (made20 twenty));
+      sound = λ twenty o laws. subst (λ (s : State). Sound o s) (sym stepped)
+          (sound_after_all o laws _ (format_starts fill before (made20 twenty)) []);
+      none = λ twenty. ap entries_of stepped ∙ format_none fill before (made20 twenty);
     }

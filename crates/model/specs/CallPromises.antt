@@ -1,6 +1,6 @@
 -- What the promises say of one call: for every history that leads to the index as it is before the call, with this
 -- call added.
-use Rattle.std.specs.Prelude.{◌≡◌, ℕ, ◌<◌, ◌≢◌, List, ◌∷◌, Some}
+use Rattle.std.specs.Prelude.{◌≡◌, ℕ, ◌<◌, ◌≢◌, List, [], ◌∷◌, Some}
 use Rattle.model.specs.declared.jobs.Job.{Job}
 use Rattle.model.specs.Answers.{code, figure}
 use Rattle.model.specs.Entries.{KeyOrder}
@@ -12,7 +12,7 @@ use Rattle.model.specs.Reference.{empty}
 use Rattle.model.specs.Histories.{Pair, Starts, after, entries_of}
 use Rattle.model.specs.Jobs.{finished_in, SameJobs, SameAnswers}
 use Rattle.model.specs.Soundness.{Sound}
-use Rattle.model.specs.Promises.{AsReference, turn_after, FinishedWithin}
+use Rattle.model.specs.Promises.{Laws, AsReference, turn_after, FinishedWithin}
 
 module _ (o : KeyOrder) where
   -- the call answers as the reference does, and leaves its entries
@@ -49,12 +49,14 @@ pub record Called (o : KeyOrder) (c : Call) (before : State) (number shown : ℕ
   pub sound : SoundThen o before next
 
 -- what format's contract says: its code and figure and the state after it are those of its step, and where it answers
--- 20 a history starts
+-- 20 a history starts, and the index is sound under every order and has no entries
 pub record FormatCalled (fill : ℕ) (before : State) (number shown : ℕ) (next : State) : Type 0 where
   pub coded : number ≡ code (format fill before).answer
   pub figured : shown ≡ figure (format fill before).answer
   pub state : next ≡ (format fill before).after
   pub starts : number ≡ 20 → Starts (record { state = next; reference = empty })
+  pub sound : number ≡ 20 → (o : KeyOrder) → Laws o → Sound o next
+  pub none : number ≡ 20 → entries_of next ≡ []
 
 -- what attach's contract says
 pub record AttachCalled (before : State) (number shown : ℕ) (next : State) : Type 0 where

@@ -1,40 +1,29 @@
-//! What is proved of every history of calls. Each function's contract is the promise that it is named for; the byte that
-//! it gives back means nothing.
+//! What is proved of every history of calls. Each function's contract is the promise that it is named for.
 ghost use Rattle.model.specs.Example.{WorkedExample};
 ghost use Rattle.model.specs.Jobs.{SameJobsSameAnswers};
 ghost use Rattle.model.specs.Promises.{AloneWithinPages, AnswersAsReference, SoundAfterAll};
 
 /// The index answers as the reference does, holds its entries, and meets no damaged page.
-pub fn answers_as_reference() -> u8
+pub fn answers_as_reference()
     ensures { AnswersAsReference }
-{
-    0
-}
+{}
 
 /// Two histories that finished the same jobs, key by key, gave them the same answers and hold the same entries.
-pub fn same_jobs_same_answers() -> u8
+pub fn same_jobs_same_answers()
     ensures { SameJobsSameAnswers }
-{
-    0
-}
+{}
 
 /// A job alone is finished within as many turns as the index has pages, unless a turn finds no free page.
-pub fn alone_within_pages() -> u8
+pub fn alone_within_pages()
     ensures { AloneWithinPages }
-{
-    0
-}
+{}
 
 /// After every history the store is sound.
-pub fn sound_after_all() -> u8
+pub fn sound_after_all()
     ensures { SoundAfterAll }
-{
-    0
-}
+{}
 
 /// The worked example comes out as it is told.
-pub fn worked_example() -> u8
+pub fn worked_example()
     ensures { WorkedExample }
-{
-    0
-}
+{}
