@@ -5,6 +5,7 @@
 mod edges;
 #[cfg(test)]
 mod garbage;
+pub mod lends;
 #[cfg(test)]
 mod loads;
 #[cfg(test)]

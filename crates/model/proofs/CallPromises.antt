@@ -66,6 +66,13 @@ ends_alone o laws c before r start cs j e own fine =
     (λ n less nine. fine n (subst (λ (s : State). n < s.pages) e less)
     (subst (λ (s : State). code (turn_after o c n s) ≡ 9) e nine)))
 
+-- what format answers on a store that is too small, and with a fill that is none
+format_short : (n : ℕ) (s : State) → length s.words < 128 → format n s ≡ refused StoreTooSmall s
+format_short n s short = cond-true _ _ _ (lt-ltb (length s.words) 128 short)
+
+format_other : (n : ℕ) (s : State) → 128 ≤ length s.words → is_fill n ≡ false → format n s ≡ refused NoFill s
+format_other n s long other = cond-false _ _ _ (le-ltb (length s.words) 128 long) ∙ cond-false _ _ _ other
+
 -- an answer of 20 says that the store is large enough and the fill is one
 format_starts : (fill : ℕ) (before : State) → code (format fill before).answer ≡ 20
     → Starts (record { state = (format fill before).after; reference = empty })
@@ -87,12 +94,6 @@ format_starts fill before made20 = elim (cases_lt (length before.words) 128) [
         absurd (omega (arith, none))
   ]
 ]
-  where
-    format_short : (n : ℕ) (s : State) → length s.words < 128 → format n s ≡ refused StoreTooSmall s
-    format_short n s short = cond-true _ _ _ (lt-ltb (length s.words) 128 short)
-
-    format_other : (n : ℕ) (s : State) → 128 ≤ length s.words → is_fill n ≡ false → format n s ≡ refused NoFill s
-    format_other n s long other = cond-false _ _ _ (le-ltb (length s.words) 128 long) ∙ cond-false _ _ _ other
 
 -- the order under which all keys are the same
 abbrev same_keys : KeyOrder
@@ -107,6 +108,21 @@ format_none : (fill : ℕ) (before : State) → code (format fill before).answer
 format_none fill before twenty =
     let start = format_starts fill before twenty in
     stands_entries same_keys_laws _ (after_stands same_keys_laws _ start [])
+
+-- a store on which it answers 20 has two pages, and has them still
+pub format_long : (fill : ℕ) (before : State) → code (format fill before).answer ≡ 20
+    → (128 ≤ length before.words) × (128 ≤ length (format fill before).after.words)
+format_long fill before twenty = (
+  elim (cases_lt (length before.words) 128) [
+    | inl short ↦
+        let small = ap (λ (out : Outcome). code out.answer) (format_short fill before short) in
+        absurd (omega (arith, small))
+    | inr long ↦ long
+  ],
+  let head = (sound_after_all same_keys same_keys_laws _ (format_starts fill before twenty) []).head in
+      let pages = head.least_pages in
+      omega (arith, head.most_pages),
+)
 
 -- all of it, for a format that takes its step
 pub format_called : (fill : ℕ) (before next : State) → next ≡ (format fill before).after
