@@ -113,3 +113,22 @@ fn chain_head_that_is_live(rt: HostRuntime) {
     });
     assert_eq!(rt; met, [(20, 2), (20, 0), (8, 1), (28, 1)]);
 }
+
+// Two inner pages under one, the right of them with words 5 and 6 but no start, as its word 4 is 0. So its first entry's
+// key is two zeros, and stands so in the page that takes it: neither words 5 and 6 nor 10 and 11 count.
+#[test]
+fn inner_page_with_words_but_no_start(rt: HostRuntime) {
+    let mut words = [0; 256];
+    words[..5].copy_from_slice(&[3, 4, 4, 0, 1]);
+    words[64..80].copy_from_slice(&[1, 2, 2, 0, 0, 0, 0, 0, 0, 0, 0, 0, 2, 7, 10, 3]);
+    words[128..141].copy_from_slice(&[1, 1, 1, 3, 0, 0, 0, 1, 7, 10, 0, 0, 21]);
+    words[192..205].copy_from_slice(&[1, 1, 1, 0, 0, 77, 88, 0, 0, 0, 5, 6, 22]);
+    let met = on(&mut words, |index| [index.attach(), index.merge(1)]);
+    assert_eq!(rt; met, [(20, 4), (30, 3)]);
+    let mut left = [0; 256];
+    left[..5].copy_from_slice(&[3, 4, 4, 0, 1]);
+    left[64..77].copy_from_slice(&[1, 2, 1, 0, 0, 0, 0, 0, 0, 0, 0, 0, 2]);
+    left[128..144].copy_from_slice(&[1, 1, 2, 0, 0, 0, 0, 0, 0, 0, 0, 0, 21, 0, 0, 22]);
+    left[192..196].copy_from_slice(&[2, 1, 0, 2]);
+    assert_eq!(rt; words, left);
+}

@@ -16,14 +16,12 @@ pub(crate) fn at(second: u64) -> Key {
     Key { hi: 7, lo: second }
 }
 
-// Runs calls over an index on these words, and takes the index apart, as its store has to be given back.
+// Runs calls over an index on these words.
 pub(crate) fn on<A, F: FnOnce(&mut Loads) -> A>(words: &mut [u64], calls: F) -> A
     requires { F.IsAlwaysCallable calls }
 {
     let mut index: Loads = Index::new(WordStore::new(words));
-    let answer = calls(&mut index);
-    let _ = index.into_store();
-    answer
+    calls(&mut index)
 }
 
 // Enters a load by console 0 in one turn, which is all that a leaf with room takes.
