@@ -2,10 +2,9 @@
 //! prints their answer lines. What is read beyond them is ignored.
 #![tactic(auto)]
 
-use runner::loads::run_loads;
-use runner::program::answer_calls;
+use runner::loads::answer_load_calls;
 use std::io;
 
 fn main(rt: HostRuntime) -> io::Result<()> {
-    answer_calls(rt.stdin(), &mut rt.stdout(), run_loads)
+    answer_load_calls(rt.stdin(), &mut rt.stdout())
 }

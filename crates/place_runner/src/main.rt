@@ -2,10 +2,9 @@
 //! prints their answer lines. What is read beyond them is ignored.
 #![tactic(auto)]
 
-use runner::places::run_places;
-use runner::program::answer_calls;
+use runner::places::answer_place_calls;
 use std::io;
 
 fn main(rt: HostRuntime) -> io::Result<()> {
-    answer_calls(rt.stdin(), &mut rt.stdout(), run_places)
+    answer_place_calls(rt.stdin(), &mut rt.stdout())
 }

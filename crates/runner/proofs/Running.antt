@@ -7,7 +7,7 @@ use Rattle.store.proofs.Overlays.{overlay_none, overlay_append}
 use Rattle.model.specs.Entries.{KeyOrder}
 use Rattle.model.specs.States.{State}
 use Rattle.runner.specs.Lines.{answer_line}
-use Rattle.runner.specs.Runs.{Reply, line_step, line_at, state_at, reply_at, answers_to}
+use Rattle.runner.specs.Runs.{Reply, line_step, line_at, state_at, reply_at, answers_to, StoreAfter, StoreKept}
 use Rattle.runner.proofs.Answers.{length_answer_line}
 use Rattle.runner.proofs.Replies.{line_short}
 
@@ -68,3 +68,34 @@ module _ (o : KeyOrder) (input : List ℕ) (start : State) (entry : List ℕ) wh
               ∙ ap (λ (bs : List ℕ). overlay bs (25 * i) answer) so_far.laid
               ∙ overlay_append entry 0 answers (25 * i) answer (omega arith) (omega arith);
         })
+
+module _ {S : Type 0} (words : S → List ℕ) (o : KeyOrder) (input : List ℕ) (start : State) (first : S) where
+  -- one line more, of the store
+  pub store_more : (i : ℕ) (s : State) (before next : S) (line : List ℕ) (code : ℕ)
+      → s ≡ state_at o input start i → words before ≡ s.words → line ≡ line_at input i
+      → code ≡ (line_step o line (i + 1) s).code → (code < 20 → next ≡ before)
+      → StoreAfter words o input start first i before → StoreAfter words o input start first (i + 1) next
+  store_more i s before next line code here read same coded kept so_far =
+      let number = add-one i in
+      let reply : code ≡ (reply_at o input start i).code = cc in
+      subst (λ n. StoreAfter words o input start first n next) (sym number)
+      (record {
+        before = before;
+        so_far = so_far;
+        read = read ∙ ap (λ (t : State). t.words) here;
+        kept = λ refused. kept (omega arith);
+      })
+
+  -- where each line is not run or refused, the store is as it was
+  store_same : (n : ℕ) (store : S) → StoreAfter words o input start first n store
+      → ((i : ℕ) → i < n → (reply_at o input start i).code < 20) → store ≡ first
+  store_same zero store is refused = is
+  store_same (suc n) store is refused =
+      is.kept (refused n (omega arith)) ∙ store_same n is.before is.so_far (λ i before. refused i (omega arith))
+
+  -- all that n lines leave of it
+  pub store_kept : (m n : ℕ) (store : S) → m ≡ n → StoreAfter words o input start first m store
+      → StoreKept words o input start first n store
+  store_kept m n store same is =
+      subst (λ k. StoreKept words o input start first k store) same
+      (record { by_line = is; refused = store_same m store is })

@@ -1,5 +1,5 @@
 -- What is promised of a whole run, from before its index is made or from any history that leads to it.
-use Rattle.std.specs.Prelude.{◌≡◌, ◌/◌, ℕ, zero, suc, true, false, cond, List, length, min, Some, None, Option, ◌==◌}
+use Rattle.std.specs.Prelude.{◌≡◌, ◌*◌, ◌/◌, ℕ, zero, suc, true, false, cond, List, length, min, Some, None, Option, ◌==◌}
 use Rattle.store.specs.Overlay.{overlay}
 use Rattle.model.specs.Answers as answers
 use Rattle.model.specs.CallPromises.{Called, EndsAlone, FormatCalled}
@@ -68,9 +68,10 @@ pub record RunPromised (o : KeyOrder) (input : List ℕ) (before : State) : Type
   pub unmade : is_made before ≡ false → LinesPromised o input (with_none before)
   pub led : (r : Pair) → Starts r → (cs : List Call) → (after o cs r).state ≡ before → LinesPromised o input (after o cs r)
 
--- what a run over a new index says: how many lines it answered, that the output is their answers and what was behind
--- them, and that every line has its promises
+-- what a run over a new index says: how many lines it answered, with 25 bytes each, that the output is their answers and
+-- what was behind them, and that every line has its promises
 pub record NewRun (o : KeyOrder) (new : State) (input before after : List ℕ) (answered : ℕ) : Type 0 where
   pub lines : answered ≡ min (length input / 73) (length before / 25)
+  pub bytes : length (answers_to o input new answered) ≡ 25 * answered
   pub answers : after ≡ overlay before 0 (answers_to o input new answered)
   pub promises : LinesPromised o input (with_none new)

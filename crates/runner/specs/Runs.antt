@@ -1,5 +1,5 @@
 -- What call lines do to an index, one after another, and what they are answered.
-use Rattle.std.specs.Prelude.{ℕ, zero, suc, ◌*◌, Bool, cond, not, List, [], ◌++◌, take, drop, Some, None, Option, nat_lt}
+use Rattle.std.specs.Prelude.{◌≡◌, ℕ, zero, suc, ◌*◌, ◌<◌, Bool, cond, not, List, [], ◌++◌, take, drop, Some, None, Option, nat_lt}
 use Rattle.model.specs.Answers as answers
 use Rattle.model.specs.CallPromises.{Called, FormatCalled}
 use Rattle.model.specs.Calls.{Call, begin, turn, withdraw, post, merge, raise, sweep, step}
@@ -86,3 +86,24 @@ module _ (o : KeyOrder) (input : List ℕ) (start : State) where
   abbrev pub answers_to : ℕ → List ℕ
   answers_to zero = []
   answers_to (suc i) = answers_to i ++ answer_line (reply_at i).code (reply_at i).figure
+
+-- THE STORE ITSELF
+
+module _ {S : Type 0} (words : S → List ℕ) (o : KeyOrder) (input : List ℕ) (start : State) (first : S) where
+  -- the store after line i, by what is known of it before: it has the words of the state there, and a line that is not
+  -- run or refused, whose code is below 20, leaves it as it was
+  pub record StoreAfterLine (i : ℕ) (Before : S → Type 0) (store : S) : Type 0 where
+    pub before : S
+    pub so_far : Before before
+    pub read : words before ≡ (state_at o input start i).words
+    pub kept : (reply_at o input start i).code < 20 → store ≡ before
+
+  -- the store after the first n lines
+  abbrev pub StoreAfter : ℕ → S → Type 0
+  StoreAfter zero store = store ≡ first
+  StoreAfter (suc i) store = StoreAfterLine i (StoreAfter i) store
+
+  -- what n lines leave of the store, line by line; where each is not run or refused, it is as it was
+  pub record StoreKept (n : ℕ) (store : S) : Type 0 where
+    pub by_line : StoreAfter n store
+    pub refused : ((i : ℕ) → i < n → (reply_at o input start i).code < 20) → store ≡ first

@@ -1,5 +1,5 @@
 //! What a program that runs call lines does: it reads them, has them run, and writes what they are answered.
-ghost use Rattle.std.specs.Prelude.{◌*◌, ◌≤◌, length, OnOk};
+ghost use Rattle.std.specs.Prelude.{OnOk};
 ghost use Rattle.runner.specs.Programs.{Answered};
 
 use crate::runs::{ANSWER_LINE, CALL_LINE};
@@ -15,15 +15,14 @@ const MOST_INPUT: usize = MOST_LINES * CALL_LINE;
 const MOST_OUTPUT: usize = MOST_LINES * ANSWER_LINE;
 
 /// Reads up to 800 call lines, has them run, and writes their answer lines. What there is to read beyond them is ignored.
-/// The run is given what was read and room for the answers, and says how many lines it answered.
+/// The run is given what was read and room for the answers, and says how many lines it answered. A run that says more
+/// than there is room for is an error, and nothing is written.
 pub fn answer_calls<R: Read + Drop, W: Write, F: FnOnce(&[u8], &mut [u8]) -> usize>(
     reader: R,
     writer: &mut W,
     run: F,
 ) -> io::Result<()>
-    requires any_lines { F.IsAlwaysCallable run }
-    requires within { (input : _) (output : _) (lines : _) (answered : _) →
-        F.post run input output lines answered → 25 * lines ≤ length output.now }
+    requires { F.IsAlwaysCallable run }
     ensures { OnOk result (Answered (F.post run) (R.remaining reader)
         (W.contents writer.old) (W.contents writer.new)) }
 {
@@ -32,5 +31,8 @@ pub fn answer_calls<R: Read + Drop, W: Write, F: FnOnce(&[u8], &mut [u8]) -> usi
     // an array and a count: what is run takes room for its answers, which an `ArrayVec` does not lend
     let mut output = [0; MOST_OUTPUT];
     let lines = run(input.as_slice(), &mut output);
+    if lines > MOST_LINES {
+        return Err(io::Error::other("more lines answered than there is room for"));
+    }
     writer.write_all(&output[..ANSWER_LINE * lines])
 }

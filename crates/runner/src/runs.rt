@@ -4,7 +4,7 @@ ghost use Rattle.index.specs.Indexes.{state_of, rule_of};
 ghost use Rattle.model.specs.Starts.{unmade};
 ghost use Rattle.store.specs.Overlay.{overlay};
 ghost use Rattle.runner.specs.Lines.{answer_line};
-ghost use Rattle.runner.specs.Runs.{answers_to, state_at};
+ghost use Rattle.runner.specs.Runs.{answers_to, state_at, StoreKept};
 ghost use Rattle.runner.specs.RunPromises.{NewRun, RunPromised};
 ghost use Rattle.runner.specs.Runs.{asked_by, is_due, Performed, line_step};
 
@@ -39,8 +39,9 @@ fn is_due<S: Store, O: Order>(index: &Index<S, O>, request: Request) -> bool
 // Runs a request, and hands on the pair that the call answers. One match and no closure: which call it is stands in the
 // line.
 fn perform<S: Store, O: Order>(index: &mut Index<S, O>, request: Request) -> (u64, u64)
-    ensures { Performed (rule_of O.keyed O.compared) (asked_by request) (state_of S.words index.old)
+    ensures performed { Performed (rule_of O.keyed O.compared) (asked_by request) (state_of S.words index.old)
         result.0 result.1 (state_of S.words index.new) }
+    ensures kept { result.0 < 20 → index.new.store ≡ index.old.store }
 {
     match request {
         Request::Format { fill } => index.format(fill),
@@ -69,6 +70,7 @@ fn answer_line<S: Store, O: Order>(index: &mut Index<S, O>, line: &[u8], number:
         (state_of S.words index.old)).figure }
     ensures state { state_of S.words index.new
         ≡ (line_step (rule_of O.keyed O.compared) line.now number (state_of S.words index.old)).next }
+    ensures kept { result.0 < 20 → index.new.store ≡ index.old.store }
 {
     match read_request(line) {
         Some(request) if is_due(index, request) => perform(index, request),
@@ -94,10 +96,14 @@ fn put_answer(output: &mut [u8], i: usize, answer: (u64, u64))
 #[tactic(auto, using(crate::proofs::Histories::run_is_promised))]
 pub fn run<S: Store, O: Order>(index: &mut Index<S, O>, input: &[u8], output: &mut [u8]) -> usize
     ensures lines { result ≡ min (length input.now / 73) (length output.old / 25) }
+    ensures bytes { length (answers_to (rule_of O.keyed O.compared) input.now (state_of S.words index.old) result)
+        ≡ 25 * result }
     ensures answers { output.new ≡ overlay output.old 0
         (answers_to (rule_of O.keyed O.compared) input.now (state_of S.words index.old) result) }
     ensures state { state_of S.words index.new
         ≡ state_at (rule_of O.keyed O.compared) input.now (state_of S.words index.old) result }
+    ensures kept { StoreKept S.words (rule_of O.keyed O.compared) input.now (state_of S.words index.old)
+        index.old.store result index.new.store }
     ensures promises { RunPromised (rule_of O.keyed O.compared) input.now (state_of S.words index.old) }
 {
     let (whole, _) = input.as_chunks::<CALL_LINE>();
@@ -109,12 +115,16 @@ pub fn run<S: Store, O: Order>(index: &mut Index<S, O>, input: &[u8], output: &m
     lines.len()
 }
 
-/// Runs call lines, as `run` does, over an index on this store that is not made yet. The store is let go at the end.
-pub fn run_new<S: Store + Drop, O: Order>(store: S, input: &[u8], output: &mut [u8]) -> usize
-    ensures { NewRun (rule_of O.keyed O.compared) (unmade (S.words store)) input.now output.old output.new result }
+/// Runs call lines, as `run` does, over an index on this store that is not made yet. It gives the store back, and says
+/// how many lines it answered.
+pub fn run_new<S: Store, O: Order>(store: S, input: &[u8], output: &mut [u8]) -> (S, usize)
+    ensures run { NewRun (rule_of O.keyed O.compared) (unmade (S.words store)) input.now output.old output.new result.1 }
+    ensures words { S.words result.0
+        ≡ (state_at (rule_of O.keyed O.compared) input.now (unmade (S.words store)) result.1).words }
+    ensures kept { StoreKept S.words (rule_of O.keyed O.compared) input.now (unmade (S.words store))
+        store result.1 result.0 }
 {
     let mut index: Index<S, O> = Index::new(store);
     let lines = run(&mut index, input, output);
-    let _ = index.into_store();
-    lines
+    (index.into_store(), lines)
 }

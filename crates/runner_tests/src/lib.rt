@@ -1,5 +1,7 @@
-//! Lines and runs at the edges of what is taken.
+//! Lines and runs at the edges of what is taken, and programs over readers and writers of all sorts.
 #![tactic(auto)]
 
+#[cfg(test)]
+mod programs;
 #[cfg(test)]
 mod runs;

@@ -1,6 +1,5 @@
 //! Lines that are not run, and input and output that end early.
 use runner::loads::run_loads;
-use runner::program::answer_calls;
 
 const NOT_RUN: [u8; 25] = *b" 13                    1\n";
 
@@ -103,44 +102,5 @@ fn partial_last_line(rt: HostRuntime) {
     assert_eq!(rt;
         output,
         *b" 20                   48\n........................."
-    );
-}
-
-// What a reader gives is run, and the answer goes behind what the writer has.
-#[test]
-fn read_and_written(rt: HostRuntime) {
-    let lines = [FORMAT; 2];
-    let mut written = Vec::new(rt.alloc());
-    let first = answer_calls(&lines.as_flattened()[..145], &mut written, run_loads);
-    let second = answer_calls(b"".as_slice(), &mut written, run_loads);
-    assert!(rt; first.is_ok());
-    assert!(rt; second.is_ok());
-    assert_eq!(rt;
-        written.as_slice(),
-        b" 20                   48\n".as_slice()
-    );
-}
-
-// An enter and its turn, and a post on a page that is no inner one, as `load_runner` has them run.
-#[test]
-fn first_calls(rt: HostRuntime) {
-    let lines = [
-        FORMAT,
-        *b" 2    0 2                    7                   10                  100\n",
-        *b" 3    0 0                    0                    0                    0\n",
-        *b" 5    9 0                    0                    0                    0\n",
-    ];
-    let mut written = Vec::new(rt.alloc());
-    let done = answer_calls(lines.as_flattened(), &mut written, run_loads);
-    assert!(rt; done.is_ok());
-    assert_eq!(rt;
-        written.as_slice().as_chunks().0,
-        [
-            *b" 20                   48\n",
-            *b" 20                    0\n",
-            *b" 25                    0\n",
-            *b" 10                    0\n",
-        ]
-        .as_slice()
     );
 }

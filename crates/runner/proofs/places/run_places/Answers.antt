@@ -6,5 +6,5 @@ pub returns : goal.returns
 returns c =
     let zeros = zeros_in_form 3072 c.zero_line-lines.result c.as_flattened_mut.result.now c.zero_line-lines.ensures
     c.as_flattened_mut.ensures.value in
-    let start = c.open.ensures.in_form zeros.0 ∙ zeros.1 in
-    rw start at c.run_new.ensures
+    let start = c.open-store.ensures.in_form zeros.0 ∙ zeros.1 in
+    rw start at c.run_new-answered.ensures.run

@@ -1,4 +1,4 @@
-use Rattle.std.proofs.Common.{refl}
+use Rattle.std.proofs.Common.{refl, arith}
 use Rattle.std.proofs.lemmas.Result.{on_ok_weaker}
 use Rattle.runner.proofs.Programs.{read_known}
 use Rattle.runner.proofs.program.answer_calls.Goals as goal
@@ -17,6 +17,7 @@ returns g c =
       fits = c.as_slice.ensures.fits;
       read = read_known (g.R.Read.remaining c.args.reader) 58400 _ _ _ c.new-input.ensures c.as_slice.ensures.value copied;
       room = refl;
+      within = omega (arith, c.if-lines-gt-MOST_LINES.false);
       written = written;
     })
     c.write_all.ensures.bytes
