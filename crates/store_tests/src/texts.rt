@@ -1,6 +1,6 @@
 //! Texts in form and out of it.
 use std::test::Fail;
-use store::check::{TextError, check_text};
+use store::check::{MOST_BYTES, TextError, Words, check_text};
 use store::form::{BadLine, test_text};
 
 #[test]
@@ -47,7 +47,26 @@ fn what_a_program_says(rt: HostRuntime) -> Result<(), Fail> {
     assert_eq!(rt; fault.as_str(), "12 1");
     let empty = check_text(b"")?.to_string(rt.alloc())?;
     assert_eq!(rt; empty.as_str(), "words 0");
-    let long = TextError::TooLong.to_string(rt.alloc())?;
-    assert_eq!(rt; long.as_str(), "the input has more than 262144 lines");
+    Ok(())
+}
+
+// A text of as many lines as are taken, and the same with a byte more and with a line more.
+#[test]
+fn a_text_over_the_limit(rt: HostRuntime) -> Result<(), Fail> {
+    let lines = vec![in rt.alloc(); *b"                   0\n"; 262_145]?;
+    let text = lines.as_slice().as_flattened();
+    assert_eq!(rt;
+        text.get(..MOST_BYTES).map(check_text),
+        Some(Ok(Words(262_144)))
+    );
+    assert_eq!(rt;
+        text.get(..=MOST_BYTES).map(check_text),
+        Some(Err(TextError::TooLong))
+    );
+    let Err(error) = check_text(text) else {
+        return Err(Fail::new("there is a line too many"));
+    };
+    let said = error.to_string(rt.alloc())?;
+    assert_eq!(rt; said.as_str(), "the input has more than 262144 lines");
     Ok(())
 }
