@@ -1,13 +1,15 @@
 -- The steps of the loop that runs lines.
-use Rattle.std.proofs.Common.{◌≡◌, ℕ, zero, suc, ◌+◌, ◌*◌, ◌^◌, ◌<◌, ◌≤◌, List, [], length, get_or, take, drop, sym, refl, ap, ◌∙◌, subst, add-one, arith}
+use Rattle.std.proofs.Common.{◌≡◌, ℕ, zero, suc, ◌+◌, ◌*◌, ◌^◌, ◌<◌, ◌≤◌, false, None, Some, Option, List, [], length, get_or, take, drop, sym, refl, ap, ◌∙◌, subst, add-one, arith}
 use Rattle.std.specs.Simd.{first_chunks}
+use Rattle.std.proofs.lemmas.Bool.Decides.{nat_tests}
 use Rattle.std.proofs.lemmas.List.{length-append, length-take, get_or-take, drop-drop}
 use Rattle.store.specs.Overlay.{overlay}
 use Rattle.store.proofs.Overlays.{overlay_none, overlay_append}
 use Rattle.model.specs.Entries.{KeyOrder}
 use Rattle.model.specs.States.{State}
-use Rattle.runner.specs.Lines.{answer_line}
-use Rattle.runner.specs.Runs.{Reply, line_step, line_at, state_at, reply_at, answers_to, StoreAfter, StoreKept}
+use Rattle.runner.specs.declared.lines.Request.{Request}
+use Rattle.runner.specs.Lines.{request_of, answer_line}
+use Rattle.runner.specs.Runs.{Reply, line_step, line_at, state_at, reply_at, answers_to, line_writes, writes_at, StoreAfter, StoreKept}
 use Rattle.runner.proofs.Answers.{length_answer_line}
 use Rattle.runner.proofs.Replies.{line_short}
 
@@ -69,33 +71,45 @@ module _ (o : KeyOrder) (input : List ℕ) (start : State) (entry : List ℕ) wh
               ∙ overlay_append entry 0 answers (25 * i) answer (omega arith) (omega arith);
         })
 
+-- a line that is not run or refused writes no page
+refused_writes_none : (q : Option Request) (code : ℕ) → code < 20 → line_writes q code ≡ false
+refused_writes_none None code refused = refl
+refused_writes_none (Some q) code refused = grind (arith, nat_tests)
+
 module _ {S : Type 0} (words : S → List ℕ) (o : KeyOrder) (input : List ℕ) (start : State) (first : S) where
   -- one line more, of the store
   pub store_more : (i : ℕ) (s : State) (before next : S) (line : List ℕ) (code : ℕ)
       → s ≡ state_at o input start i → words before ≡ s.words → line ≡ line_at input i
-      → code ≡ (line_step o line (i + 1) s).code → (code < 20 → next ≡ before)
+      → code ≡ (line_step o line (i + 1) s).code → (line_writes (request_of line) code ≡ false → next ≡ before)
       → StoreAfter words o input start first i before → StoreAfter words o input start first (i + 1) next
   store_more i s before next line code here read same coded kept so_far =
       let number = add-one i in
       let reply : code ≡ (reply_at o input start i).code = cc in
+      let writes : line_writes (request_of line) code ≡ writes_at words o input start first i = cc in
       subst (λ n. StoreAfter words o input start first n next) (sym number)
       (record {
         before = before;
         so_far = so_far;
         read = read ∙ ap (λ (t : State). t.words) here;
-        kept = λ refused. kept (omega arith);
+        kept = λ unwritten. kept (writes ∙ unwritten);
       })
 
-  -- where each line is not run or refused, the store is as it was
+  -- where no line writes a page, the store is as it was
   store_same : (n : ℕ) (store : S) → StoreAfter words o input start first n store
-      → ((i : ℕ) → i < n → (reply_at o input start i).code < 20) → store ≡ first
-  store_same zero store is refused = is
-  store_same (suc n) store is refused =
-      is.kept (refused n (omega arith)) ∙ store_same n is.before is.so_far (λ i before. refused i (omega arith))
+      → ((i : ℕ) → i < n → writes_at words o input start first i ≡ false) → store ≡ first
+  store_same zero store is unwritten = is
+  store_same (suc n) store is unwritten =
+      is.kept (unwritten n (omega arith)) ∙ store_same n is.before is.so_far (λ i before. unwritten i (omega arith))
 
   -- all that n lines leave of it
   pub store_kept : (m n : ℕ) (store : S) → m ≡ n → StoreAfter words o input start first m store
       → StoreKept words o input start first n store
   store_kept m n store same is =
       subst (λ k. StoreKept words o input start first k store) same
-      (record { by_line = is; refused = store_same m store is })
+      (record {
+        by_line = is;
+        unwritten = store_same m store is;
+        refused = λ refused. store_same m store is
+            (λ i within. refused_writes_none (request_of (line_at input i)) (reply_at o input start i).code
+            (refused i within));
+      })

@@ -1,5 +1,5 @@
 -- What call lines do to an index, one after another, and what they are answered.
-use Rattle.std.specs.Prelude.{◌≡◌, ℕ, zero, suc, ◌*◌, ◌<◌, Bool, cond, not, List, [], ◌++◌, take, drop, Some, None, Option, nat_lt}
+use Rattle.std.specs.Prelude.{◌≡◌, ℕ, zero, suc, ◌*◌, ◌<◌, Bool, true, false, cond, not, ◌&&◌, ◌||◌, ◌==◌, List, [], ◌++◌, take, drop, Some, None, Option, nat_lt}
 use Rattle.model.specs.Answers as answers
 use Rattle.model.specs.CallPromises.{Called, FormatCalled}
 use Rattle.model.specs.Calls.{Call, begin, turn, withdraw, post, merge, raise, sweep, step}
@@ -89,21 +89,44 @@ module _ (o : KeyOrder) (input : List ℕ) (start : State) where
 
 -- THE STORE ITSELF
 
+-- whether a request that is answered a code of 20 or above may have written pages: a begin and a withdraw write none, and
+-- a turn only where it is answered 22 (a split), 25 (an entry put in) or 27 (one taken out)
+abbrev pub writes : Asked → ℕ → Bool
+writes (makes fill) code = true
+writes (calls (begin console kind key value)) code = false
+writes (calls (turn console)) code = (code == 22) || ((code == 25) || (code == 27))
+writes (calls (withdraw console)) code = false
+writes (calls (post page)) code = true
+writes (calls (merge page)) code = true
+writes (calls raise) code = true
+writes (calls sweep) code = true
+
+-- the same of a line: one that is not run, or refused, has a code below 20
+abbrev pub line_writes : Option Request → ℕ → Bool
+line_writes None code = false
+line_writes (Some q) code = not (nat_lt code 20) && writes (asked_by q) code
+
 module _ {S : Type 0} (words : S → List ℕ) (o : KeyOrder) (input : List ℕ) (start : State) (first : S) where
-  -- the store after line i, by what is known of it before: it has the words of the state there, and a line that is not
-  -- run or refused, whose code is below 20, leaves it as it was
+  -- whether line i may have written pages
+  abbrev pub writes_at : ℕ → Bool
+  writes_at i = line_writes (request_of (line_at input i)) (reply_at o input start i).code
+
+  -- the store after line i, by what is known of it before: it has the words of the state there, and a line that writes no
+  -- page leaves it as it was
   pub record StoreAfterLine (i : ℕ) (Before : S → Type 0) (store : S) : Type 0 where
     pub before : S
     pub so_far : Before before
     pub read : words before ≡ (state_at o input start i).words
-    pub kept : (reply_at o input start i).code < 20 → store ≡ before
+    pub kept : writes_at i ≡ false → store ≡ before
 
   -- the store after the first n lines
   abbrev pub StoreAfter : ℕ → S → Type 0
   StoreAfter zero store = store ≡ first
   StoreAfter (suc i) store = StoreAfterLine i (StoreAfter i) store
 
-  -- what n lines leave of the store, line by line; where each is not run or refused, it is as it was
+  -- what n lines leave of the store, line by line; where none of them writes a page, or each is not run or refused, it is
+  -- as it was
   pub record StoreKept (n : ℕ) (store : S) : Type 0 where
     pub by_line : StoreAfter n store
+    pub unwritten : ((i : ℕ) → i < n → writes_at i ≡ false) → store ≡ first
     pub refused : ((i : ℕ) → i < n → (reply_at o input start i).code < 20) → store ≡ first

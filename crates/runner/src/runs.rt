@@ -1,12 +1,12 @@
 //! The run of call lines over an index.
-ghost use Rattle.std.specs.Prelude.{◌≡◌, ◌+◌, ◌*◌, ◌/◌, ◌<◌, ◌≤◌, min, length};
+ghost use Rattle.std.specs.Prelude.{◌≡◌, ◌+◌, ◌*◌, ◌/◌, ◌<◌, ◌≤◌, false, min, length, Some};
 ghost use Rattle.index.specs.Indexes.{state_of, rule_of};
 ghost use Rattle.model.specs.Starts.{unmade};
 ghost use Rattle.store.specs.Overlay.{overlay};
-ghost use Rattle.runner.specs.Lines.{answer_line};
+ghost use Rattle.runner.specs.Lines.{answer_line, request_of};
 ghost use Rattle.runner.specs.Runs.{answers_to, state_at, StoreKept};
 ghost use Rattle.runner.specs.RunPromises.{NewRun, RunPromised};
-ghost use Rattle.runner.specs.Runs.{asked_by, is_due, Performed, line_step};
+ghost use Rattle.runner.specs.Runs.{asked_by, is_due, Performed, line_step, line_writes};
 
 use crate::lines::{Request, read_request, write_answer};
 use index::Index;
@@ -41,7 +41,8 @@ fn is_due<S: Store, O: Order>(index: &Index<S, O>, request: Request) -> bool
 fn perform<S: Store, O: Order>(index: &mut Index<S, O>, request: Request) -> (u64, u64)
     ensures performed { Performed (rule_of O.keyed O.compared) (asked_by request) (state_of S.words index.old)
         result.0 result.1 (state_of S.words index.new) }
-    ensures kept { result.0 < 20 → index.new.store ≡ index.old.store }
+    ensures kept { line_writes (Some request) result.0 ≡ false → index.new.store ≡ index.old.store }
+    ensures tied { S.lenders index.new.store ≡ S.lenders index.old.store }
 {
     match request {
         Request::Format { fill } => index.format(fill),
@@ -70,7 +71,8 @@ fn answer_line<S: Store, O: Order>(index: &mut Index<S, O>, line: &[u8], number:
         (state_of S.words index.old)).figure }
     ensures state { state_of S.words index.new
         ≡ (line_step (rule_of O.keyed O.compared) line.now number (state_of S.words index.old)).next }
-    ensures kept { result.0 < 20 → index.new.store ≡ index.old.store }
+    ensures kept { line_writes (request_of line.now) result.0 ≡ false → index.new.store ≡ index.old.store }
+    ensures tied { S.lenders index.new.store ≡ S.lenders index.old.store }
 {
     match read_request(line) {
         Some(request) if is_due(index, request) => perform(index, request),
@@ -104,6 +106,7 @@ pub fn run<S: Store, O: Order>(index: &mut Index<S, O>, input: &[u8], output: &m
         ≡ state_at (rule_of O.keyed O.compared) input.now (state_of S.words index.old) result }
     ensures kept { StoreKept S.words (rule_of O.keyed O.compared) input.now (state_of S.words index.old)
         index.old.store result index.new.store }
+    ensures tied { S.lenders index.new.store ≡ S.lenders index.old.store }
     ensures promises { RunPromised (rule_of O.keyed O.compared) input.now (state_of S.words index.old) }
 {
     let (whole, _) = input.as_chunks::<CALL_LINE>();
@@ -123,6 +126,7 @@ pub fn run_new<S: Store, O: Order>(store: S, input: &[u8], output: &mut [u8]) ->
         ≡ (state_at (rule_of O.keyed O.compared) input.now (unmade (S.words store)) result.1).words }
     ensures kept { StoreKept S.words (rule_of O.keyed O.compared) input.now (unmade (S.words store))
         store result.1 result.0 }
+    ensures tied { S.lenders result.0 ≡ S.lenders store }
 {
     let mut index: Index<S, O> = Index::new(store);
     let lines = run(&mut index, input, output);

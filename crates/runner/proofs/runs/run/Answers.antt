@@ -1,4 +1,4 @@
-use Rattle.std.proofs.Common.{List, ℕ, refl, arith}
+use Rattle.std.proofs.Common.{List, ℕ, refl, ◌∙◌, arith}
 use Rattle.std.proofs.lemmas.List.{length-take}
 use Rattle.index.specs.Indexes.{state_of, rule_of}
 use Rattle.runner.proofs.Replies.{line_short}
@@ -9,6 +9,7 @@ pub loop-i-init : goal.loop-i-init
 loop-i-init g c = (
   run_none (rule_of g.O.Order.keyed g.O.Order.compared) c.args.input.now
       (state_of g.S.Store.words c.args.index.now) c.args.output.now,
+  refl,
   refl,
 )
 
@@ -28,6 +29,7 @@ loop-i-preserved g c =
           c.put_answer.ensures,
       store_more g.S.Store.words order c.args.input.now start _ c.loop-i.i _ _ _ _ _ c.loop-i.invariant.0.state refl line
           said.code said.kept c.loop-i.invariant.1,
+      said.tied ∙ c.loop-i.invariant.2,
     )
 
 pub returns-clause-kept : goal.returns-clause-kept

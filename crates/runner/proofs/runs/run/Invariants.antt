@@ -1,4 +1,5 @@
--- The lines so far are run, their answers are laid over the output, and the store is as they left it.
+-- The lines so far are run, their answers are laid over the output, and the store is as they left it and ties what it tied.
+use Rattle.std.proofs.Common.{◌≡◌}
 use Rattle.index.specs.Indexes.{state_of, rule_of}
 use Rattle.runner.specs.Runs.{StoreAfter}
 use Rattle.runner.proofs.Running.{RunTo}
@@ -11,3 +12,4 @@ invariant-loop-i g l =
     l.i (state_of g.S.Store.words l.index) l.output
     × StoreAfter g.S.Store.words (rule_of g.O.Order.keyed g.O.Order.compared) l.input
     (state_of g.S.Store.words l.initial.index) l.initial.index.store l.i l.index.store
+    × (g.S.Store.lenders l.index.store ≡ g.S.Store.lenders l.initial.index.store)
