@@ -3,6 +3,7 @@ use std::alloc::{AllocError, Global};
 
 // The codes that must come: those of all calls, of the text test and of the runner.
 const REFUSALS: std::ops::Range<usize> = 1..14;
+
 const ANSWERS: std::ops::Range<usize> = 20..33;
 
 /// How many calls were compared, and how often each code came.

@@ -27,41 +27,99 @@ fn call_words(alloc: Global, call: Call) -> Result<String, AllocError> {
     }
 }
 
-fn shown(
+/// What led to a difference: the words before, and the calls or call lines since.
+#[derive(Clone, Copy, Debug)]
+pub(crate) struct History<'a> {
+    pub(crate) before: &'a [u64],
+    pub(crate) calls: &'a [Call],
+    pub(crate) lines: &'a [u8],
+}
+
+// Bytes as text if they are, else as numbers.
+fn push_bytes(alloc: Global, text: &mut String, bytes: &[u8]) -> Result<(), AllocError> {
+    match str::from_utf8(bytes) {
+        Ok(lines) => text.push_str(lines),
+        Err(_) => text.push_str(format!(in alloc; "{bytes:?}")?.as_str()),
+    }
+}
+
+fn shown(alloc: Global, history: &History) -> Result<String, AllocError> {
+    let mut text = String::from_str(alloc, "the store before, as text:\n")?;
+    text.push_str(text_of(alloc, history.before)?.as_str())?;
+    text.push_str("the calls:\n")?;
+    for call in history.calls {
+        text.push_str(call_words(alloc, *call)?.as_str())?;
+    }
+    for line in history.lines.chunks(73) {
+        push_bytes(alloc, &mut text, line)?;
+    }
+    let count = history.calls.len();
+    text.push_str(format!(in alloc; "\nafter {count} calls: ")?.as_str())?;
+    Ok(text)
+}
+
+fn shown_answers(
     alloc: Global,
+    history: &History,
     how: &str,
     given: Answer,
     said: Answer,
-    before: &[u64],
-    calls: &[Call],
 ) -> Result<String, AllocError> {
-    let mut text = String::from_str(alloc, "the store before, as text:\n")?;
-    text.push_str(text_of(alloc, before)?.as_str())?;
-    text.push_str("the calls:\n")?;
-    for call in calls {
-        text.push_str(call_words(alloc, *call)?.as_str())?;
-    }
-    let count = calls.len();
+    let mut text = shown(alloc, history)?;
     let ((code, figure), (other, another)) = (given, said);
-    let end = format!(
-        in alloc;
-        "after {count} calls: {how}: the index has {code} {figure}, and they have {other} {another}\n"
+    let end = format!(in alloc;
+        "{how}: the index has {code} {figure}, and it is {other} {another}\n"
     )?;
     text.push_str(end.as_str())?;
     Ok(text)
 }
 
-/// The failure of an index that gave one answer where another one is said.
-pub(crate) fn report(
+fn shown_run(
     alloc: Global,
-    how: &str,
-    given: Answer,
-    said: Answer,
-    before: &[u64],
-    calls: &[Call],
-) -> Failure {
-    match shown(alloc, how, given, said, before, calls) {
+    history: &History,
+    input: &[u8],
+    output: &[u8],
+    told: &[u8],
+) -> Result<String, AllocError> {
+    let mut text = shown(alloc, history)?;
+    for (name, bytes) in [
+        ("these lines", input),
+        ("are answered", output),
+        ("and not", told),
+    ] {
+        text.push_str(name)?;
+        text.push_str("\n")?;
+        push_bytes(alloc, &mut text, bytes)?;
+        text.push_str("\n")?;
+    }
+    Ok(text)
+}
+
+fn failure(text: Result<String, AllocError>) -> Failure {
+    match text {
         Ok(text) => Failure::Differs(text),
         Err(_) => Failure::Memory,
     }
+}
+
+/// The failure of an index that gave one answer where another one is said.
+pub(crate) fn report(
+    alloc: Global,
+    history: &History,
+    how: &str,
+    given: Answer,
+    said: Answer,
+) -> Failure {
+    failure(shown_answers(alloc, history, how, given, said))
+}
+
+/// The failure of a run that wrote one output where another one is told.
+pub(crate) fn report_run(
+    alloc: Global,
+    history: &History,
+    input: &[u8],
+    output: &[u8],
+    told: &[u8],
+) -> Failure {
+    failure(shown_run(alloc, history, input, output, told))
 }

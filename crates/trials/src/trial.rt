@@ -1,7 +1,7 @@
 //! One index with all that it is held against, call by call.
 use crate::counts::Counts;
 use crate::failures::Failure;
-use crate::report::report;
+use crate::report::{History, report, report_run};
 use crate::stores::{Mirror, Shown};
 use index::Index;
 use order::{Key, Order};
@@ -13,16 +13,8 @@ pub(crate) type Answer = (u64, u64);
 
 // On stores up to this many words all words are compared after each call, on others after this many calls.
 const SMALL: usize = 1_100;
-const INTERVAL: u64 = 16;
 
-/// What is known of a trial's history.
-#[derive(Clone, Copy, PartialEq, Eq, Debug)]
-pub(crate) enum Ground {
-    // A format made the index, if anything did.
-    Sound,
-    // It stands on words that no index wrote.
-    Damaged,
-}
+const INTERVAL: u64 = 16;
 
 /// The model, the plain list, what they were begun with, and the calls since then.
 #[derive(Debug, Drop)]
@@ -32,9 +24,10 @@ pub(crate) struct Trial {
     pub(crate) model: Model,
     // none before the index is made, and over words that no index wrote
     list: Option<PlainList>,
-    ground: Ground,
     before: Vec<u64>,
     calls: Vec<Call>,
+    // the call lines that were run, instead of calls
+    lines: Vec<u8>,
     mirror: Mirror,
     pub(crate) counts: Counts,
     uncompared: u64,
@@ -72,16 +65,15 @@ impl Trial {
         alloc: Global,
         order: trials_model::Order,
         words: &[u64],
-        ground: Ground,
     ) -> Result<Trial, Failure> {
         Ok(Trial {
             alloc,
             order,
             model: Model::new(alloc, order, Vec::from_slice(alloc, words)?),
             list: None,
-            ground,
             before: Vec::from_slice(alloc, words)?,
             calls: Vec::new(alloc),
+            lines: Vec::new(alloc),
             mirror: Mirror::new(alloc, words)?,
             counts: Counts::new(),
             uncompared: 0,
@@ -131,7 +123,6 @@ impl Trial {
         let (code, figure) = given;
         if matches!(call, Call::Format(_)) && code == 20 {
             self.list = Some(PlainList::new(self.alloc, self.order));
-            self.ground = Ground::Sound;
             return Ok(());
         }
         let Some(list) = &mut self.list else {
@@ -190,7 +181,11 @@ impl Trial {
         let held = entries_of(self.alloc, self.order, words)?;
         let listed = list.entries(self.alloc)?;
         if held.as_slice() != listed.as_slice() {
-            return Err(self.differs("the entries are not those of the plain list", (0, 0), (0, 0)));
+            return Err(self.differs(
+                "the entries are not those of the plain list",
+                (0, 0),
+                (0, 0),
+            ));
         }
         Ok(())
     }
@@ -206,15 +201,27 @@ impl Trial {
         self.compare_entries(index)
     }
 
+    /// Notes call lines that were run over both.
+    pub(crate) fn note_lines(&mut self, lines: &[u8]) -> Result<(), Failure> {
+        self.lines.extend_from_slice(lines)?;
+        Ok(())
+    }
+
+    fn history(&self) -> History<'_> {
+        History {
+            before: self.before.as_slice(),
+            calls: self.calls.as_slice(),
+            lines: self.lines.as_slice(),
+        }
+    }
+
     /// The failure in which the index gave one answer, and another one is said.
     pub(crate) fn differs(&self, how: &str, given: Answer, said: Answer) -> Failure {
-        report(
-            self.alloc,
-            how,
-            given,
-            said,
-            self.before(),
-            self.calls.as_slice(),
-        )
+        report(self.alloc, &self.history(), how, given, said)
+    }
+
+    /// The failure of a run of these lines that wrote one output, where another one is told.
+    pub(crate) fn differs_in_run(&self, input: &[u8], output: &[u8], told: &[u8]) -> Failure {
+        report_run(self.alloc, &self.history(), input, output, told)
     }
 }
