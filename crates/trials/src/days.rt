@@ -4,7 +4,7 @@ use crate::stores::Shown;
 use crate::trial::Trial;
 use index::{Index, Ticket};
 use order::{Key, Order};
-use trials_gen::{Dice, Setting, Wish, draw_call, draw_unmade_call, draw_wish};
+use trials_gen::{Dice, Mix, Setting, Wish, draw_call, draw_unmade_call, draw_wish};
 use trials_model::Call;
 
 // After about so many calls a job is done by ticket, a job is turned alone, and the store is tested for soundness.
@@ -161,8 +161,16 @@ pub(crate) fn day<S: Shown, O: Order>(
     let unmade = dice.below(4);
     unmade_calls(trial, index, dice, setting, unmade)?;
     trial.take(index, Call::Format(setting.fill))?;
-    let count = dice.between(100, 900);
-    day_calls(trial, index, dice, setting, count)?;
+    let longest = (setting.words / 2).saturating_add(200);
+    let count = dice.between(60, longest.min(1_700));
+    // what is to be struck has to be entered before
+    let morning = if setting.mix == Mix::Strikes {
+        count / 2
+    } else {
+        0
+    };
+    day_calls(trial, index, dice, &setting.with_mix(Mix::Enters), morning)?;
+    day_calls(trial, index, dice, setting, count.saturating_sub(morning))?;
     trial.finish(index)
 }
 

@@ -4,8 +4,13 @@ use std::alloc::{AllocError, AllocFailed};
 /// Why a trial did not come to its end.
 #[derive(Debug, Drop)]
 pub(crate) enum Failure {
-    // Index and model differ: how, and all that repeats it.
-    Differs(String),
+    // Index and model differ.
+    Differs {
+        // How, and all that repeats it.
+        how: String,
+        // The calls that were compared in this trial.
+        calls: u64,
+    },
     Memory,
 }
 

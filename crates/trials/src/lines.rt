@@ -85,7 +85,11 @@ fn compare_run<S: Shown, O: Order>(
         trial.counts.add(*code);
     }
     trial.note_lines(input)?;
-    trial.compare_words(index)
+    trial.compare_words(index)?;
+    if trial.model.is_made() {
+        trial.test_soundness()?;
+    }
+    Ok(())
 }
 
 /// A few runs of call lines over an index that is not made.
@@ -108,5 +112,5 @@ pub(crate) fn runs<S: Shown, O: Order>(
         };
         compare_run(trial, index, input.as_slice(), room as usize)?;
     }
-    trial.compare_words(index)
+    trial.finish(index)
 }

@@ -33,6 +33,7 @@ pub(crate) struct History<'a> {
     pub(crate) before: &'a [u64],
     pub(crate) calls: &'a [Call],
     pub(crate) lines: &'a [u8],
+    pub(crate) compared: u64,
 }
 
 // Bytes as text if they are, else as numbers.
@@ -95,9 +96,10 @@ fn shown_run(
     Ok(text)
 }
 
-fn failure(text: Result<String, AllocError>) -> Failure {
+fn failure(text: Result<String, AllocError>, history: &History) -> Failure {
+    let calls = history.compared;
     match text {
-        Ok(text) => Failure::Differs(text),
+        Ok(how) => Failure::Differs { how, calls },
         Err(_) => Failure::Memory,
     }
 }
@@ -110,7 +112,7 @@ pub(crate) fn report(
     given: Answer,
     said: Answer,
 ) -> Failure {
-    failure(shown_answers(alloc, history, how, given, said))
+    failure(shown_answers(alloc, history, how, given, said), history)
 }
 
 /// The failure of a run that wrote one output where another one is told.
@@ -121,5 +123,5 @@ pub(crate) fn report_run(
     output: &[u8],
     told: &[u8],
 ) -> Failure {
-    failure(shown_run(alloc, history, input, output, told))
+    failure(shown_run(alloc, history, input, output, told), history)
 }

@@ -17,11 +17,16 @@ use trials_gen::{
 };
 use trials_model::{Call, Key, Model, Order, entries_of, text_of};
 
+// The words of as many pages as an index has.
+const MOST_WORDS: u64 = 4_096 * 64;
+
 /// What is tried.
 #[derive(Clone, Copy, PartialEq, Eq, Debug)]
 pub(crate) enum Plan {
     // A day on a made index.
     Day(Mix),
+    // A day on a store with more pages than an index has.
+    Large,
     // An index that is not made, on stores of all lengths.
     Unmade,
     // An index attached to damaged words.
@@ -70,7 +75,7 @@ fn drive<S: Shown, O: order::Order>(
 ) -> Result<(), Failure> {
     let setting = &draft.setting;
     match draft.plan {
-        Plan::Day(_) => day(trial, index, dice, setting),
+        Plan::Day(_) | Plan::Large => day(trial, index, dice, setting),
         Plan::Unmade => unmade(trial, index, dice, setting),
         Plan::Damaged => damaged(trial, index, dice, setting),
         Plan::Lines => runs(trial, index, dice, setting),
@@ -118,7 +123,7 @@ fn run_trial(
     work: &mut Work,
 ) -> Result<Trial, Failure> {
     let order = draft.setting.order;
-    let mut trial = Trial::new(alloc, order, words)?;
+    let mut trial = Trial::new(alloc, order, words, kind == Kind::Text)?;
     match (kind, order) {
         (Kind::Words, Order::Loads) => on_words::<LoadOrder>(&mut trial, dice, draft, work)?,
         (Kind::Words, Order::Places) => {
@@ -236,9 +241,13 @@ fn pair(alloc: Global, dice: &mut Dice, case: Case) -> Result<Counts, Failure> {
     let jobs = wishes.as_slice();
     let (here, there) = (first.answers.as_slice(), second.answers.as_slice());
     let (held, kept) = (first.entries.as_slice(), second.entries.as_slice());
-    Err(Failure::Differs(format!(in alloc;
+    let how = format!(in alloc;
         "the same jobs {jobs:?}\nwere answered {here:?}\nand {there:?}\nand left {held:?}\nand {kept:?}\n"
-    )?))
+    )?;
+    Err(Failure::Differs {
+        how,
+        calls: first.counts.calls().saturating_add(second.counts.calls()),
+    })
 }
 
 // One trial of a case.
@@ -247,7 +256,10 @@ fn single(alloc: Global, dice: &mut Dice, case: Case) -> Result<Counts, Failure>
         Plan::Day(mix) => mix,
         _ => Mix::Even,
     };
-    let setting = draw_setting(dice, case.order, mix);
+    let mut setting = draw_setting(dice, case.order, mix);
+    if case.plan == Plan::Large {
+        setting.words = dice.pick(&[MOST_WORDS, MOST_WORDS + 64, MOST_WORDS + 127]);
+    }
     let words = match case.plan {
         Plan::Damaged => damaged_words(alloc, dice, &setting)?,
         Plan::Unmade => {
@@ -270,12 +282,14 @@ pub(crate) fn round(alloc: Global, dice: &mut Dice, case: Case) -> Result<Counts
     match case.plan {
         Plan::Pairs => pair(alloc, dice, case),
         Plan::Texts => texts(alloc, dice, 60),
-        Plan::Day(_) | Plan::Unmade | Plan::Damaged | Plan::Lines => single(alloc, dice, case),
+        Plan::Day(_) | Plan::Large | Plan::Unmade | Plan::Damaged | Plan::Lines => single(
+            alloc, dice, case,
+        ),
     }
 }
 
 /// The cases of a round.
-pub(crate) const CASES: [Case; 27] = [
+pub(crate) const CASES: [Case; 28] = [
     Case {
         name: "days, words, loads, even",
         plan: Plan::Day(Mix::Even),
@@ -433,6 +447,12 @@ pub(crate) const CASES: [Case; 27] = [
         order: Order::Places,
     },
     Case {
+        name: "4096 pages, words, loads",
+        plan: Plan::Large,
+        kind: Kind::Words,
+        order: Order::Loads,
+    },
+    Case {
         name: "texts",
         plan: Plan::Texts,
         kind: Kind::Text,
@@ -441,6 +461,11 @@ pub(crate) const CASES: [Case; 27] = [
 ];
 
 impl Case {
+    /// Whether it is tried in this round: stores of many pages are seldom.
+    pub(crate) fn is_due(self, round: u64) -> bool {
+        self.plan != Plan::Large || round % 20 == 19
+    }
+
     /// A number of its own, by which its draws are others than those of other cases.
     pub(crate) fn salt(self) -> u64 {
         let mut salt = 0u64;

@@ -18,9 +18,9 @@ pub(crate) struct Mirror {
 }
 
 impl Mirror {
-    /// The mirror of these words.
-    pub(crate) fn new(alloc: Global, words: &[u64]) -> Result<Mirror, Failure> {
-        let text = text_of(alloc, words)?;
+    /// The mirror of these words. A text is kept only for a store of text.
+    pub(crate) fn new(alloc: Global, words: &[u64], is_text: bool) -> Result<Mirror, Failure> {
+        let text = text_of(alloc, if is_text { words } else { &[] })?;
         Ok(Mirror {
             alloc,
             words: Vec::from_slice(alloc, words)?,
@@ -30,6 +30,9 @@ impl Mirror {
 
     /// Takes over the words that changed.
     pub(crate) fn follow(&mut self, words: &[u64]) -> Result<(), Failure> {
+        if self.text.is_empty() {
+            return Ok(());
+        }
         let lines = self.text.as_mut_slice().chunks_mut(LINE);
         for ((old, new), line) in self.words.iter_mut().zip(words).zip(lines) {
             if *old != *new {

@@ -38,9 +38,13 @@ fn compare_text(alloc: Global, text: &mut Vec<u8>, counts: &mut Counts) -> Resul
     }
     let bytes = text.as_slice();
     let ((code, figure), (model, line)) = (given, other);
-    Err(Failure::Differs(format!(in alloc;
+    let how = format!(in alloc;
         "the text {bytes:?}\nthe test has {code} {figure}, the model {model} {line}, the store {length} words\n"
-    )?))
+    )?;
+    Err(Failure::Differs {
+        how,
+        calls: counts.calls(),
+    })
 }
 
 /// Tests some texts.

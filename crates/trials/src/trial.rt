@@ -65,6 +65,7 @@ impl Trial {
         alloc: Global,
         order: trials_model::Order,
         words: &[u64],
+        is_text: bool,
     ) -> Result<Trial, Failure> {
         Ok(Trial {
             alloc,
@@ -74,7 +75,7 @@ impl Trial {
             before: Vec::from_slice(alloc, words)?,
             calls: Vec::new(alloc),
             lines: Vec::new(alloc),
-            mirror: Mirror::new(alloc, words)?,
+            mirror: Mirror::new(alloc, words, is_text)?,
             counts: Counts::new(),
             uncompared: 0,
         })
@@ -171,15 +172,12 @@ impl Trial {
         index: &Index<S, O>,
     ) -> Result<(), Failure> {
         self.compare_words(index)?;
-        let Some(list) = &self.list else {
-            return Ok(());
+        let listed = match &self.list {
+            Some(list) => list.entries(self.alloc)?,
+            None => return Ok(()),
         };
-        let words = self.model.words();
-        if let Some(rule) = unsound(self.alloc, self.order, words)? {
-            return Err(self.differs("this rule of a sound store is broken", (rule, 0), (0, 0)));
-        }
-        let held = entries_of(self.alloc, self.order, words)?;
-        let listed = list.entries(self.alloc)?;
+        self.test_soundness()?;
+        let held = entries_of(self.alloc, self.order, self.model.words())?;
         if held.as_slice() != listed.as_slice() {
             return Err(self.differs(
                 "the entries are not those of the plain list",
@@ -188,6 +186,18 @@ impl Trial {
             ));
         }
         Ok(())
+    }
+
+    /// Tests that the words are a sound store.
+    pub(crate) fn test_soundness(&self) -> Result<(), Failure> {
+        match unsound(self.alloc, self.order, self.model.words())? {
+            Some(rule) => Err(self.differs(
+                "this rule of a sound store is broken",
+                (rule, 0),
+                (0, 0),
+            )),
+            None => Ok(()),
+        }
     }
 
     /// Withdraws every console, and compares all that is left.
@@ -212,6 +222,7 @@ impl Trial {
             before: self.before.as_slice(),
             calls: self.calls.as_slice(),
             lines: self.lines.as_slice(),
+            compared: self.counts.calls(),
         }
     }
 

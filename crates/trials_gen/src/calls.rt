@@ -62,7 +62,18 @@ fn draw_page(dice: &mut Dice, model: &Model) -> u64 {
     dice.below(model.page_count().saturating_add(2))
 }
 
+// Whether the root has a right neighbour, so that a raise is due.
+fn is_root_split(model: &Model) -> bool {
+    match model.pages().get(model.root() as usize) {
+        Some(Page::Leaf { next, .. } | Page::Inner { next, .. }) => *next != 0,
+        _ => false,
+    }
+}
+
 fn upkeep(dice: &mut Dice, model: &Model) -> Call {
+    if is_root_split(model) && dice.one_in(3) {
+        return Call::Raise;
+    }
     match dice.below(8) {
         0..=2 => Call::Post(draw_page(dice, model)),
         3..=5 => Call::Merge(draw_page(dice, model)),

@@ -125,12 +125,27 @@ fn damage_page(dice: &mut Dice, words: &mut [u64], page: u64, pages: u64, order:
     }
 }
 
+// A page with this flag and a level above this one, if a few draws meet one; else any.
+fn find_page(dice: &mut Dice, words: &[u64], pages: u64, flag: u64, level: u64) -> u64 {
+    for _ in 0..24 {
+        let page = dice.below(pages);
+        if get(words, page, 0) == flag && get(words, page, 1) >= level {
+            return page;
+        }
+    }
+    dice.below(pages)
+}
+
 /// Turns a few words of a store.
 pub fn damage_words(dice: &mut Dice, words: &mut [u64], order: Order) {
     let pages = (words.len() / 64) as u64;
     let times = dice.between(1, 6);
     for _ in 0..times {
-        let page = dice.below(pages);
+        let page = match dice.below(4) {
+            0 => find_page(dice, words, pages, 1, 1),
+            1 => find_page(dice, words, pages, 2, 0),
+            _ => dice.below(pages),
+        };
         if page == 0 {
             damage_description(dice, words, pages);
         } else {

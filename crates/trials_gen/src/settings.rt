@@ -32,6 +32,13 @@ pub struct Setting {
     pub upkeep: u64,
 }
 
+impl Setting {
+    /// The same with jobs that are mostly for something else.
+    pub fn with_mix(self, mix: Mix) -> Setting {
+        Setting { mix, ..self }
+    }
+}
+
 /// Draws a setting of 2 to 48 pages, and mostly of some words more.
 pub fn draw_setting(dice: &mut Dice, order: Order, mix: Mix) -> Setting {
     let pages = match dice.below(4) {
@@ -40,7 +47,7 @@ pub fn draw_setting(dice: &mut Dice, order: Order, mix: Mix) -> Setting {
         _ => dice.between(12, 48),
     };
     let beyond = dice.pick(&[0, 0, 1, 17, 63]);
-    let keys = dice.pick(&[6, 24, 60, 120, 400]);
+    let keys = dice.pick(&[6, 24, 60, 120, 120, 400]);
     Setting {
         order,
         mix,
@@ -48,6 +55,6 @@ pub fn draw_setting(dice: &mut Dice, order: Order, mix: Mix) -> Setting {
         fill: dice.pick(&[4, 4, 5, 6, 7, 18]),
         consoles: dice.pick(&[1, 2, 4, 9, 32]),
         keys,
-        upkeep: dice.pick(&[0, 4, 12, 25, 40]),
+        upkeep: dice.pick(&[0, 6, 15, 25, 40]),
     }
 }

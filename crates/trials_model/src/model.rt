@@ -106,6 +106,11 @@ impl Model {
         self.pages.as_slice()
     }
 
+    /// The page with which jobs begin.
+    pub fn root(&self) -> u64 {
+        self.root
+    }
+
     /// The job of a console.
     pub fn job(&self, console: u64) -> Option<Job> {
         self.jobs.get(console as usize).copied().flatten()
@@ -130,8 +135,10 @@ impl Model {
 
     fn put_words(&mut self, number: u64, words: [u64; WORDS]) {
         let first = (number as usize).saturating_mul(WORDS);
-        for (place, word) in self.words.iter_mut().skip(first).zip(words) {
-            *place = word;
+        if let Some(behind) = self.words.as_mut_slice().get_mut(first..) {
+            for (place, word) in behind.iter_mut().zip(words) {
+                *place = word;
+            }
         }
     }
 
