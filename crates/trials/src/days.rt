@@ -151,6 +151,14 @@ fn day_calls<S: Shown, O: Order>(
     Ok(())
 }
 
+// What the jobs are for by turns: what is to be struck has to be entered before.
+fn waves(mix: Mix) -> [Mix; 2] {
+    match mix {
+        Mix::Strikes => [Mix::Enters, Mix::Strikes],
+        Mix::Even | Mix::Enters => [mix, mix],
+    }
+}
+
 /// A day on a store that a format makes an index.
 pub(crate) fn day<S: Shown, O: Order>(
     trial: &mut Trial,
@@ -163,14 +171,10 @@ pub(crate) fn day<S: Shown, O: Order>(
     trial.take(index, Call::Format(setting.fill))?;
     let longest = (setting.words / 2).saturating_add(200);
     let count = dice.between(60, longest.min(1_700));
-    // what is to be struck has to be entered before
-    let morning = if setting.mix == Mix::Strikes {
-        count / 2
-    } else {
-        0
-    };
-    day_calls(trial, index, dice, &setting.with_mix(Mix::Enters), morning)?;
-    day_calls(trial, index, dice, setting, count.saturating_sub(morning))?;
+    let [morning, noon] = waves(setting.mix);
+    for mix in [morning, noon, morning, noon] {
+        day_calls(trial, index, dice, &setting.with_mix(mix), count / 4)?;
+    }
     trial.finish(index)
 }
 

@@ -28,7 +28,7 @@ fn draw_kind(dice: &mut Dice, mix: Mix) -> u64 {
     match mix {
         Mix::Even => dice.pick(&[1, 2, 3]),
         Mix::Enters => dice.pick(&[1, 2, 2, 2, 2, 2, 2, 3]),
-        Mix::Strikes => dice.pick(&[1, 2, 2, 2, 3, 3, 3, 3]),
+        Mix::Strikes => dice.pick(&[1, 2, 3, 3, 3, 3, 3, 3]),
     }
 }
 
