@@ -169,8 +169,8 @@ pub(crate) fn day<S: Shown, O: Order>(
     let unmade = dice.below(4);
     unmade_calls(trial, index, dice, setting, unmade)?;
     trial.take(index, Call::Format(setting.fill))?;
-    let longest = (setting.words / 2).saturating_add(200);
-    let count = dice.between(60, longest.min(1_700));
+    let longest = setting.words.saturating_add(300);
+    let count = dice.between(60, longest.min(4_000));
     let [morning, noon] = waves(setting.mix);
     for mix in [morning, noon, morning, noon] {
         day_calls(trial, index, dice, &setting.with_mix(mix), count / 4)?;

@@ -156,7 +156,7 @@ fn damaged_words(alloc: Global, dice: &mut Dice, setting: &Setting) -> Result<Ve
     }
     let mut model = Model::new(alloc, setting.order, words);
     let _ = model.take(Call::Format(setting.fill))?;
-    let count = dice.between(10, 400);
+    let count = dice.between(10, 900);
     for _ in 0..count {
         let call = draw_call(dice, setting, &model);
         let _ = model.take(call)?;
@@ -257,6 +257,9 @@ fn single(alloc: Global, dice: &mut Dice, case: Case) -> Result<Counts, Failure>
         _ => Mix::Even,
     };
     let mut setting = draw_setting(dice, case.order, mix);
+    if case.plan == Plan::Damaged {
+        setting = setting.with_growth();
+    }
     if case.plan == Plan::Large {
         setting.words = dice.pick(&[MOST_WORDS, MOST_WORDS + 64, MOST_WORDS + 127]);
     }

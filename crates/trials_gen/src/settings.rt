@@ -37,6 +37,15 @@ impl Setting {
     pub fn with_mix(self, mix: Mix) -> Setting {
         Setting { mix, ..self }
     }
+
+    /// The same with so many keys and so much upkeep that there are inner pages and gone ones.
+    pub fn with_growth(self) -> Setting {
+        Setting {
+            keys: self.keys.max(60),
+            upkeep: self.upkeep.max(15),
+            ..self
+        }
+    }
 }
 
 /// Draws a setting of 2 to 48 pages, and mostly of some words more.
@@ -52,7 +61,7 @@ pub fn draw_setting(dice: &mut Dice, order: Order, mix: Mix) -> Setting {
         order,
         mix,
         words: pages.saturating_mul(64).saturating_add(beyond),
-        fill: dice.pick(&[4, 4, 5, 6, 7, 18]),
+        fill: dice.pick(&[4, 4, 4, 5, 6, 7, 18]),
         consoles: dice.pick(&[1, 2, 4, 9, 32]),
         keys,
         upkeep: dice.pick(&[0, 6, 15, 25, 40]),
