@@ -49,8 +49,8 @@ impl Ticket {
     }
 }
 
-// What a drop requires is asked wherever a ticket would be let go. No container of the library can promise it of what it
-// holds, so a ticket goes into none.
+// What a drop requires is asked wherever a ticket would be let go. Types that own what they hold by `T: Drop`, as `Vec`
+// does, cannot promise it, so none of them takes a ticket; an `Option` that is matched does.
 impl Drop for Ticket {
     fn drop(self)
         requires { self.spent ≡ true }

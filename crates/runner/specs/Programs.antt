@@ -26,8 +26,8 @@ pub record Answered (post : CallOfRun) (known before after : Option (List ℕ)) 
   pub written : Appends before after (take (25 * lines) answered.now)
 
 -- the bytes of at most 800 call lines were read, which are those that the reader had where they are known; and what was
--- written are the answers to their whole lines, one after another, by an index that is new, which has its promises at
--- every line
+-- written are the answers to their whole lines, one after another, by an index that is new; each line that is run has
+-- its promises
 pub record AnsweredNew (o : KeyOrder) (new : State) (known before after : Option (List ℕ)) : Type 0 where
   pub input : List ℕ
   pub fits : length input ≤ 73 * 800

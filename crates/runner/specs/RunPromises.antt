@@ -69,7 +69,7 @@ pub record RunPromised (o : KeyOrder) (input : List ℕ) (before : State) : Type
   pub led : (r : Pair) → Starts r → (cs : List Call) → (after o cs r).state ≡ before → LinesPromised o input (after o cs r)
 
 -- what a run over a new index says: how many lines it answered, with 25 bytes each, that the output is their answers and
--- what was behind them, and that every line has its promises
+-- what was behind them, and that each line that is run has its promises
 pub record NewRun (o : KeyOrder) (new : State) (input before after : List ℕ) (answered : ℕ) : Type 0 where
   pub lines : answered ≡ min (length input / 73) (length before / 25)
   pub bytes : length (answers_to o input new answered) ≡ 25 * answered

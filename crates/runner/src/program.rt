@@ -16,7 +16,7 @@ const MOST_OUTPUT: usize = MOST_LINES * ANSWER_LINE;
 
 /// Reads up to 800 call lines, has them run, and writes their answer lines. What there is to read beyond them is ignored.
 /// The run is given what was read and room for the answers, and says how many lines it answered. A run that says more
-/// than there is room for is an error, and nothing is written.
+/// than there is room for is an error.
 pub fn answer_calls<R: Read + Drop, W: Write, F: FnOnce(&[u8], &mut [u8]) -> usize>(
     reader: R,
     writer: &mut W,

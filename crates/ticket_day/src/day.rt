@@ -52,11 +52,21 @@ impl Work {
     }
 }
 
+// Posts and merges once at each page, and tells how often either did so.
+fn post_and_merge<S: Store, O: Order>(index: &mut Index<S, O>) -> (u64, u64) {
+    let mut posted: u64 = 0;
+    let mut merged: u64 = 0;
+    for page in 1..PAGES {
+        posted = posted.saturating_add(u64::from(index.post(page).0 == 29));
+        merged = merged.saturating_add(u64::from(index.merge(page).0 == 30));
+    }
+    (posted, merged)
+}
+
 // Raises the root if it has a neighbour, posts and merges once at each inner page, and sweeps.
 fn keep_up<S: Store, O: Order>(index: &mut Index<S, O>) -> Upkeep {
     let raised = u64::from(index.raise().0 == 31);
-    let posted = (1..PAGES).filter(|page| index.post(*page).0 == 29).count() as u64;
-    let merged = (1..PAGES).filter(|page| index.merge(*page).0 == 30).count() as u64;
+    let (posted, merged) = post_and_merge(index);
     let freed = match index.sweep() {
         (32, pages) => pages,
         _ => 0,

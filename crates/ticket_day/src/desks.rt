@@ -38,8 +38,8 @@ pub struct Job {
 pub enum Ending {
     /// With its answer, after so many turns.
     Answered { code: u64, figure: u64, turns: u64 },
-    /// It was still open after so many turns, and was withdrawn from a page.
-    Withdrawn { page: u64, turns: u64 },
+    /// It was still open after so many turns, and was withdrawn, with this answer: 28 and the page where it stood.
+    Withdrawn { code: u64, page: u64, turns: u64 },
     /// It was never begun: begin gave this code.
     NotBegun { code: u64 },
 }
@@ -84,8 +84,8 @@ fn turn<S: Store, O: Order>(index: &mut Index<S, O>, desk: Desk, number: u64) ->
 fn close<S: Store, O: Order>(index: &mut Index<S, O>, desk: Desk, turns: u64) -> Ending {
     match desk {
         Desk::Open(ticket) => {
-            let (_, page) = index.withdraw_by_ticket(ticket);
-            Ending::Withdrawn { page, turns }
+            let (code, page) = index.withdraw_by_ticket(ticket);
+            Ending::Withdrawn { code, page, turns }
         }
         Desk::Closed(ending) => ending,
     }

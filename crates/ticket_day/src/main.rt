@@ -45,11 +45,11 @@ fn main(rt: HostRuntime) -> anyhow::Result<()> {
     let mut words = [0; WORDS];
     let mut index: Index<WordStore, LoadOrder> = Index::new(WordStore::new(&mut words));
     let (made, _) = index.format(FILL);
-    let work = day::run(&mut index);
-    let left = remaining(&index.into_store());
     if made != 20 {
         bail!("the index could not be made: format answered {made}");
     }
+    let work = day::run(&mut index);
+    let left = remaining(index.store());
     print_day(&rt, &work, left)?;
     if work.tally() != left {
         bail!("the tally and the loads in the index differ");

@@ -64,11 +64,19 @@ impl fmt::Display for Line {
                 _,
             ) => write!(f, "{figure} t struck in {}", Turns(turns)),
             (Ending::Answered { code, .. }, _) => write!(f, "answered {code}"),
-            (Ending::Withdrawn { page, turns }, _) => write!(
+            (
+                Ending::Withdrawn {
+                    code: 28,
+                    page,
+                    turns,
+                },
+                _,
+            ) => write!(
                 f,
                 "not done after {}, withdrawn at page {page}",
                 Turns(turns)
             ),
+            (Ending::Withdrawn { code, .. }, _) => write!(f, "not withdrawn, refused with {code}"),
             (Ending::NotBegun { code }, _) => write!(f, "not begun, refused with {code}"),
         }
     }
