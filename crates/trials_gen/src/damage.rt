@@ -40,7 +40,8 @@ fn put_key(dice: &mut Dice, words: &mut [u64], page: u64, i: u64, order: Order) 
 
 // Turns a word of page 0: the chain's head, the root, the words behind them, or those that an attach tests.
 fn damage_description(dice: &mut Dice, words: &mut [u64], pages: u64) {
-    match dice.below(12) {
+    match dice.below(14) {
+        12 | 13 => high_root(dice, words),
         0..=3 => {
             let head = link(dice, 1, pages);
             set(words, 0, 3, head);
@@ -54,6 +55,15 @@ fn damage_description(dice: &mut Dice, words: &mut [u64], pages: u64) {
         10 => set(words, 0, 2, dice.pick(&[3, 4, 5, 18, 19])),
         _ => set(words, 0, dice.between(5, 63), dice.word()),
     }
+}
+
+// A root of the highest level that there is, or next to it, and a page beside it.
+fn high_root(dice: &mut Dice, words: &mut [u64]) {
+    let root = get(words, 0, 4);
+    set(words, root, 0, 1);
+    set(words, root, 1, dice.pick(&[4_094, 4_095, 4_095, 4_096]));
+    set(words, root, 2, 1);
+    set(words, root, 3, 1);
 }
 
 // Two entries of a page lead to one child, which is its own right neighbour.
@@ -77,7 +87,7 @@ fn circle(dice: &mut Dice, words: &mut [u64], page: u64, pages: u64) {
 
 // Turns words of one page.
 fn damage_page(dice: &mut Dice, words: &mut [u64], page: u64, pages: u64, order: Order) {
-    match dice.below(12) {
+    match dice.below(14) {
         0 => set(words, page, 0, dice.pick(&[0, 1, 2, 3, u64::MAX])),
         1 => set(
             words,
@@ -120,8 +130,8 @@ fn damage_page(dice: &mut Dice, words: &mut [u64], page: u64, pages: u64, order:
             set(words, page, i, child);
         }
         10 => set(words, page, dice.between(10, 63), dice.word()),
-        _ if dice.one_in(2) => one_child_twice(words, page),
-        _ => circle(dice, words, page, pages),
+        11 => circle(dice, words, page, pages),
+        _ => one_child_twice(words, page),
     }
 }
 
@@ -141,9 +151,10 @@ pub fn damage_words(dice: &mut Dice, words: &mut [u64], order: Order) {
     let pages = (words.len() / 64) as u64;
     let times = dice.between(1, 6);
     for _ in 0..times {
-        let page = match dice.below(4) {
-            0 => find_page(dice, words, pages, 1, 1),
-            1 => find_page(dice, words, pages, 2, 0),
+        let page = match dice.below(6) {
+            0 | 1 => find_page(dice, words, pages, 1, 1),
+            2 => find_page(dice, words, pages, 2, 0),
+            3 => 0,
             _ => dice.below(pages),
         };
         if page == 0 {
