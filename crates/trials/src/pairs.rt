@@ -142,5 +142,5 @@ pub(crate) fn finish_wishes<S: Shown, O: Order>(
             begin_next(trial, index, setting, wishes, work, console)?;
         }
     }
-    Err(trial.differs("the jobs of a pair were not finished", (0, 0), (0, 0)))
+    Err(trial.differs("the jobs of a pair were not finished", None))
 }

@@ -44,7 +44,8 @@ fn push_bytes(alloc: Global, text: &mut String, bytes: &[u8]) -> Result<(), Allo
     }
 }
 
-fn shown(alloc: Global, history: &History) -> Result<String, AllocError> {
+/// What led to a difference, as text.
+pub(crate) fn shown(alloc: Global, history: &History) -> Result<String, AllocError> {
     let mut text = String::from_str(alloc, "the store before, as text:\n")?;
     text.push_str(text_of(alloc, history.before)?.as_str())?;
     text.push_str("the calls:\n")?;
@@ -59,19 +60,24 @@ fn shown(alloc: Global, history: &History) -> Result<String, AllocError> {
     Ok(text)
 }
 
-fn shown_answers(
+// What the index answered, and what is said instead, where answers differ.
+pub(crate) type Answers = Option<(Answer, Answer)>;
+
+fn shown_difference(
     alloc: Global,
     history: &History,
     how: &str,
-    given: Answer,
-    said: Answer,
+    answers: Answers,
 ) -> Result<String, AllocError> {
     let mut text = shown(alloc, history)?;
-    let ((code, figure), (other, another)) = (given, said);
-    let end = format!(in alloc;
-        "{how}: the index has {code} {figure}, and it is {other} {another}\n"
-    )?;
-    text.push_str(end.as_str())?;
+    text.push_str(how)?;
+    if let Some(((code, figure), (other, another))) = answers {
+        let end = format!(in alloc;
+            ": the index has {code} {figure}, and it is {other} {another}"
+        )?;
+        text.push_str(end.as_str())?;
+    }
+    text.push_str("\n")?;
     Ok(text)
 }
 
@@ -104,15 +110,9 @@ fn failure(text: Result<String, AllocError>, history: &History) -> Failure {
     }
 }
 
-/// The failure of an index that gave one answer where another one is said.
-pub(crate) fn report(
-    alloc: Global,
-    history: &History,
-    how: &str,
-    given: Answer,
-    said: Answer,
-) -> Failure {
-    failure(shown_answers(alloc, history, how, given, said), history)
+/// The failure of an index that differs in this way, and by these answers if they differ.
+pub(crate) fn report(alloc: Global, history: &History, how: &str, answers: Answers) -> Failure {
+    failure(shown_difference(alloc, history, how, answers), history)
 }
 
 /// The failure of a run that wrote one output where another one is told.

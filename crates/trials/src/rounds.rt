@@ -197,7 +197,7 @@ fn pair_setting(dice: &mut Dice, order: Order) -> Setting {
 // What one of a pair comes to.
 #[derive(Debug, Drop)]
 struct Done {
-    counts: Counts,
+    trial: Trial,
     answers: Vec<Answer>,
     entries: Vec<(Key, u64)>,
 }
@@ -219,10 +219,11 @@ fn one_of_pair(
         wishes,
     };
     let trial = run_trial(alloc, dice, kind, &draft, words.as_slice(), &mut work)?;
+    let entries = entries_of(alloc, order, trial.model.words())?;
     Ok(Done {
-        counts: trial.counts,
+        trial,
         answers: work.answers,
-        entries: entries_of(alloc, order, trial.model.words())?,
+        entries,
     })
 }
 
@@ -234,19 +235,33 @@ fn pair(alloc: Global, dice: &mut Dice, case: Case) -> Result<Counts, Failure> {
     let second = one_of_pair(alloc, dice, Kind::Words, case.order, wishes.as_slice())?;
     let alike = first.answers.as_slice() == second.answers.as_slice();
     if alike && first.entries.as_slice() == second.entries.as_slice() {
-        let mut counts = first.counts;
-        counts.add_all(&second.counts);
+        let mut counts = first.trial.counts;
+        counts.add_all(&second.trial.counts);
         return Ok(counts);
     }
-    let jobs = wishes.as_slice();
+    Err(pair_differs(alloc, wishes.as_slice(), &first, &second)?)
+}
+
+// The failure of a pair: what led to each, the jobs, and what they came to.
+fn pair_differs(
+    alloc: Global,
+    jobs: &[Wish],
+    first: &Done,
+    second: &Done,
+) -> Result<Failure, Failure> {
+    let (one, other) = (first.trial.shown()?, second.trial.shown()?);
     let (here, there) = (first.answers.as_slice(), second.answers.as_slice());
     let (held, kept) = (first.entries.as_slice(), second.entries.as_slice());
     let how = format!(in alloc;
-        "the same jobs {jobs:?}\nwere answered {here:?}\nand {there:?}\nand left {held:?}\nand {kept:?}\n"
+        "{one}\n{other}\nthe same jobs {jobs:?}\nwere answered {here:?}\nand {there:?}\nand left {held:?}\nand {kept:?}\n"
     )?;
-    Err(Failure::Differs {
+    Ok(Failure::Differs {
         how,
-        calls: first.counts.calls().saturating_add(second.counts.calls()),
+        calls: first
+            .trial
+            .counts
+            .calls()
+            .saturating_add(second.trial.counts.calls()),
     })
 }
 

@@ -1,11 +1,11 @@
 //! One index with all that it is held against, call by call.
 use crate::counts::Counts;
 use crate::failures::Failure;
-use crate::report::{History, report, report_run};
+use crate::report::{Answers, History, report, report_run, shown};
 use crate::stores::{Mirror, Shown};
 use index::Index;
 use order::{Key, Order};
-use std::alloc::Global;
+use std::alloc::{AllocError, Global};
 use trials_model::{Call, Model, PlainList, entries_of, unsound};
 
 /// A code and a figure.
@@ -109,7 +109,7 @@ impl Trial {
         let (code, _) = given;
         self.counts.add(code);
         if given != said {
-            return Err(self.differs("the model answers otherwise", given, said));
+            return Err(self.differs("the model answers otherwise", Some((given, said))));
         }
         self.judge_by_list(call, given)?;
         self.uncompared = self.uncompared.saturating_add(1);
@@ -131,7 +131,9 @@ impl Trial {
         };
         let said = match call {
             Call::Attach => {
-                list.clear_tasks();
+                if code == 20 {
+                    list.clear_tasks();
+                }
                 given
             }
             Call::Begin {
@@ -145,10 +147,10 @@ impl Trial {
             Call::Format(_) | Call::Post(_) | Call::Merge(_) | Call::Raise | Call::Sweep => given,
         };
         if said != given {
-            return Err(self.differs("the plain list answers otherwise", given, said));
+            return Err(self.differs("the plain list answers otherwise", Some((given, said))));
         }
         if code == 8 {
-            return Err(self.differs("a damaged page in a sound store", given, said));
+            return Err(self.differs("8, a damaged page, in a sound store", None));
         }
         Ok(())
     }
@@ -163,7 +165,7 @@ impl Trial {
         if index.store().shows(self.model.words(), &self.mirror) {
             return Ok(());
         }
-        Err(self.differs("the words differ", (0, 0), (0, 0)))
+        Err(self.differs("the words are not the model's", None))
     }
 
     /// Tests that the store is sound, and that its entries are those of the list.
@@ -179,11 +181,7 @@ impl Trial {
         self.test_soundness()?;
         let held = entries_of(self.alloc, self.order, self.model.words())?;
         if held.as_slice() != listed.as_slice() {
-            return Err(self.differs(
-                "the entries are not those of the plain list",
-                (0, 0),
-                (0, 0),
-            ));
+            return Err(self.differs("the entries are not those of the plain list", None));
         }
         Ok(())
     }
@@ -191,11 +189,10 @@ impl Trial {
     /// Tests that the words are a sound store.
     pub(crate) fn test_soundness(&self) -> Result<(), Failure> {
         match unsound(self.alloc, self.order, self.model.words())? {
-            Some(rule) => Err(self.differs(
-                "this rule of a sound store is broken",
-                (rule, 0),
-                (0, 0),
-            )),
+            Some(rule) => {
+                let how = format!(in self.alloc; "rule {rule} of a sound store is broken")?;
+                Err(self.differs(how.as_str(), None))
+            }
             None => Ok(()),
         }
     }
@@ -226,9 +223,14 @@ impl Trial {
         }
     }
 
-    /// The failure in which the index gave one answer, and another one is said.
-    pub(crate) fn differs(&self, how: &str, given: Answer, said: Answer) -> Failure {
-        report(self.alloc, &self.history(), how, given, said)
+    /// The failure in which the index differs in this way, and by these answers if they differ.
+    pub(crate) fn differs(&self, how: &str, answers: Answers) -> Failure {
+        report(self.alloc, &self.history(), how, answers)
+    }
+
+    /// The store before and the calls since, as text.
+    pub(crate) fn shown(&self) -> Result<String, AllocError> {
+        shown(self.alloc, &self.history())
     }
 
     /// The failure of a run of these lines that wrote one output, where another one is told.

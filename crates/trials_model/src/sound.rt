@@ -90,7 +90,7 @@ impl Store {
         live_part(self.page(number)?)
     }
 
-    // Rule 1: the root is live, has no start and is of the highest live level.
+    // Rule 1: the root is a live page without a start, and no live page is on a higher level.
     fn has_root(&self) -> bool {
         let Some(root) = self.live_at(self.root) else {
             return false;
