@@ -79,10 +79,16 @@ pub fn draw_no_key(dice: &mut Dice, order: Order) -> Key {
             hi: dice.pick(&edges),
             lo: dice.pick(&[0, 1, 5]),
         },
-        1 => Key {
-            hi: 0x4142_4344_4546_4748,
-            lo: dice.pick(&edges),
-        },
+        1 => {
+            let lo = dice.pick(&edges);
+            // a truck that there is, where the second is none
+            let hi = if order == Order::Loads && lo > 10_000 {
+                7
+            } else {
+                0x4142_4344_4546_4748
+            };
+            Key { hi, lo }
+        }
         _ => Key {
             hi: dice.word(),
             lo: dice.word(),
