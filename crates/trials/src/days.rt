@@ -14,6 +14,11 @@ const ALONE: u64 = 60;
 
 const SOUND: u64 = 48;
 
+// The drawn calls while a tree grows, and while it is cleared.
+const FLOOD: u64 = 600;
+
+const EBB: u64 = 900;
+
 /// Takes one drawn call.
 pub(crate) fn take_drawn<S: Shown, O: Order>(
     trial: &mut Trial,
@@ -153,7 +158,7 @@ fn day_calls<S: Shown, O: Order>(
 fn waves(mix: Mix) -> [Mix; 2] {
     match mix {
         Mix::Strikes => [Mix::Enters, Mix::Strikes],
-        Mix::Even | Mix::Enters => [mix, mix],
+        Mix::Even | Mix::Enters | Mix::Clear => [mix, mix],
     }
 }
 
@@ -172,6 +177,26 @@ pub(crate) fn day<S: Shown, O: Order>(
     let [morning, noon] = waves(setting.mix);
     for mix in [morning, noon, morning, noon] {
         day_calls(trial, index, dice, &setting.with_mix(mix), count / 4)?;
+    }
+    trial.finish(index)
+}
+
+/// A day on which the tree grows high and is cleared, twice.
+pub(crate) fn tides<S: Shown, O: Order>(
+    trial: &mut Trial,
+    index: &mut Index<S, O>,
+    dice: &mut Dice,
+    setting: &Setting,
+) -> Result<(), Failure> {
+    let clearing = Setting {
+        mix: Mix::Clear,
+        upkeep: 45,
+        ..*setting
+    };
+    trial.take(index, Call::Format(setting.fill))?;
+    for _ in 0..2 {
+        day_calls(trial, index, dice, setting, FLOOD)?;
+        day_calls(trial, index, dice, &clearing, EBB)?;
     }
     trial.finish(index)
 }

@@ -1,6 +1,6 @@
 //! Rounds: each kind of trial on each kind of store and order.
 use crate::counts::Counts;
-use crate::days::{damaged, day, unmade};
+use crate::days::{damaged, day, tides, unmade};
 use crate::failures::Failure;
 use crate::lines::runs;
 use crate::pairs::{Work, finish_wishes};
@@ -13,7 +13,8 @@ use std::alloc::Global;
 use store::text::TextStore;
 use store::words::WordStore;
 use trials_gen::{
-    Dice, Mix, Setting, Wish, damage_words, draw_call, draw_setting, draw_wish, soup,
+    Dice, Mix, Setting, Wish, damage_words, draw_call, draw_high_setting, draw_setting, draw_wish,
+    soup,
 };
 use trials_model::{Call, Key, Model, Order, entries_of, text_of};
 
@@ -27,6 +28,8 @@ pub(crate) enum Plan {
     Day(Mix),
     // A day on a store with more pages than an index has.
     Large,
+    // Days on which a tree grows and is cleared.
+    Tides,
     // An index that is not made, on stores of all lengths.
     Unmade,
     // An index attached to damaged words.
@@ -76,6 +79,7 @@ fn drive<S: Shown, O: order::Order>(
     let setting = &draft.setting;
     match draft.plan {
         Plan::Day(_) | Plan::Large => day(trial, index, dice, setting),
+        Plan::Tides => tides(trial, index, dice, setting),
         Plan::Unmade => unmade(trial, index, dice, setting),
         Plan::Damaged => damaged(trial, index, dice, setting),
         Plan::Lines => runs(trial, index, dice, setting),
@@ -271,7 +275,10 @@ fn single(alloc: Global, dice: &mut Dice, case: Case) -> Result<Counts, Failure>
         Plan::Day(mix) => mix,
         _ => Mix::Even,
     };
-    let mut setting = draw_setting(dice, case.order, mix);
+    let mut setting = match case.plan {
+        Plan::Tides => draw_high_setting(dice, case.order),
+        _ => draw_setting(dice, case.order, mix),
+    };
     if case.plan == Plan::Damaged {
         setting = setting.with_growth();
     }
@@ -300,14 +307,13 @@ pub(crate) fn round(alloc: Global, dice: &mut Dice, case: Case) -> Result<Counts
     match case.plan {
         Plan::Pairs => pair(alloc, dice, case),
         Plan::Texts => texts(alloc, dice, 60),
-        Plan::Day(_) | Plan::Large | Plan::Unmade | Plan::Damaged | Plan::Lines => single(
-            alloc, dice, case,
-        ),
+        Plan::Day(_) | Plan::Large | Plan::Tides | Plan::Unmade | Plan::Damaged | Plan::Lines =>
+            single(alloc, dice, case),
     }
 }
 
 /// The cases of a round.
-pub(crate) const CASES: [Case; 28] = [
+pub(crate) const CASES: [Case; 30] = [
     Case {
         name: "days, words, loads, even",
         plan: Plan::Day(Mix::Even),
@@ -475,6 +481,18 @@ pub(crate) const CASES: [Case; 28] = [
         plan: Plan::Texts,
         kind: Kind::Text,
         order: Order::Loads,
+    },
+    Case {
+        name: "tides, words, loads",
+        plan: Plan::Tides,
+        kind: Kind::Words,
+        order: Order::Loads,
+    },
+    Case {
+        name: "tides, text, places",
+        plan: Plan::Tides,
+        kind: Kind::Text,
+        order: Order::Places,
     },
 ];
 

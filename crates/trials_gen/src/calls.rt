@@ -28,6 +28,7 @@ fn draw_kind(dice: &mut Dice, mix: Mix) -> u64 {
     match mix {
         Mix::Even => dice.pick(&[1, 2, 3]),
         Mix::Enters => dice.pick(&[1, 2, 2, 2, 2, 2, 2, 3]),
+        Mix::Clear => 3,
         Mix::Strikes => dice.pick(&[1, 2, 3, 3, 3, 3, 3, 3]),
     }
 }
@@ -41,8 +42,32 @@ pub fn draw_wish(dice: &mut Dice, setting: &Setting) -> Wish {
     }
 }
 
-fn begin(dice: &mut Dice, setting: &Setting, console: u64) -> Call {
-    let Wish { kind, key, value } = draw_wish(dice, setting);
+// A key that a leaf holds, if a few draws meet one.
+fn held_key(dice: &mut Dice, model: &Model) -> Option<Key> {
+    for _ in 0..12 {
+        let number = dice.below(model.page_count());
+        if let Some(Page::Leaf { entries, .. }) = model.pages().get(number as usize) {
+            let place = dice.below(entries.len() as u64);
+            if let Some((key, _)) = entries.get(place as usize) {
+                return Some(*key);
+            }
+        }
+    }
+    None
+}
+
+// What is to be done next, where the entries are to be cleared: a strike of one of them.
+fn draw_due_wish(dice: &mut Dice, setting: &Setting, model: &Model) -> Wish {
+    let wish = draw_wish(dice, setting);
+    if setting.mix != Mix::Clear {
+        return wish;
+    }
+    let key = held_key(dice, model).unwrap_or(wish.key);
+    Wish { key, ..wish }
+}
+
+fn begin(dice: &mut Dice, setting: &Setting, model: &Model, console: u64) -> Call {
+    let Wish { kind, key, value } = draw_due_wish(dice, setting, model);
     Call::Begin {
         console,
         kind,
@@ -151,9 +176,9 @@ pub fn draw_call(dice: &mut Dice, setting: &Setting, model: &Model) -> Call {
         0 | 1 => wild_call(dice, setting, model),
         2 => Call::Withdraw(console),
         3 => Call::Turn(console),
-        4 => begin(dice, setting, console),
+        4 => begin(dice, setting, model, console),
         _ if model.job(console).is_some() => Call::Turn(console),
-        _ => begin(dice, setting, console),
+        _ => begin(dice, setting, model, console),
     }
 }
 

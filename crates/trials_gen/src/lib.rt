@@ -13,4 +13,4 @@ pub use damage::{damage_words, soup};
 pub use dice::Dice;
 pub use keys::{draw_key, draw_no_key};
 pub use lines::{draw_line, draw_text};
-pub use settings::{Mix, Setting, draw_setting};
+pub use settings::{Mix, Setting, draw_high_setting, draw_setting};

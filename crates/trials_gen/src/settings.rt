@@ -11,6 +11,8 @@ pub enum Mix {
     Enters,
     /// Strikes, so that pages are merged.
     Strikes,
+    /// Strikes of keys that are held, until none is.
+    Clear,
 }
 
 /// The size of a store, and who does what with it.
@@ -45,6 +47,20 @@ impl Setting {
             upkeep: self.upkeep.max(15),
             ..self
         }
+    }
+}
+
+/// Draws a setting in which a tree can grow high: many pages, and few entries in each.
+pub fn draw_high_setting(dice: &mut Dice, order: Order) -> Setting {
+    let pages = dice.between(20, 48);
+    Setting {
+        order,
+        mix: Mix::Enters,
+        words: pages.saturating_mul(64),
+        fill: dice.pick(&[4, 4, 4, 5, 6, 7]),
+        consoles: dice.pick(&[1, 4, 9, 32]),
+        keys: dice.pick(&[60, 120, 200]),
+        upkeep: dice.pick(&[20, 30]),
     }
 }
 
