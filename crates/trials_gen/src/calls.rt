@@ -182,7 +182,7 @@ pub fn draw_call(dice: &mut Dice, setting: &Setting, model: &Model) -> Call {
     }
 }
 
-/// Draws a call on an index that is not made, which no format or attach of it makes.
+/// Draws a call on an index that is not made. Seldom a format or an attach among them makes it.
 pub fn draw_unmade_call(dice: &mut Dice, setting: &Setting, model: &Model) -> Call {
     match dice.below(4) {
         0 => wild_call_unmade(dice),

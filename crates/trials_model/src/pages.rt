@@ -13,8 +13,7 @@ const ENTRY: usize = 3;
 // The highest level of a page that can be read.
 pub(crate) const TOP_LEVEL: u64 = 4_095;
 
-// What a job or upkeep can find at a page's number.
-/// A page.
+/// A page: what a job or upkeep can find at a page's number.
 #[derive(Debug, Drop)]
 pub enum Page {
     /// A live page of level 0.

@@ -14,7 +14,7 @@ struct Child {
     count: u64,
 }
 
-// What upkeep knows of an inner page: its level, its end, the keys of the entries behind the first, and all its children.
+// What upkeep knows of an inner page: its end, the keys of the entries behind the first, and all its children.
 #[derive(Debug, Drop)]
 struct Family {
     end: Option<Key>,
