@@ -41,7 +41,7 @@ fn put_key(dice: &mut Dice, words: &mut [u64], page: u64, i: u64, order: Order) 
 // Turns a word of page 0: the chain's head, the root, the words behind them, or those that an attach tests.
 fn damage_description(dice: &mut Dice, words: &mut [u64], pages: u64) {
     match dice.below(14) {
-        12 | 13 => high_root(dice, words),
+        12 | 13 => odd_root(dice, words),
         0..=3 => {
             let head = link(dice, 1, pages);
             set(words, 0, 3, head);
@@ -57,13 +57,24 @@ fn damage_description(dice: &mut Dice, words: &mut [u64], pages: u64) {
     }
 }
 
-// A root of the highest level that there is, or next to it, and a page beside it.
-fn high_root(dice: &mut Dice, words: &mut [u64]) {
+// A root that is gone, or of the highest level that there is, or next to it, with a page beside it.
+fn odd_root(dice: &mut Dice, words: &mut [u64]) {
     let root = get(words, 0, 4);
+    if dice.one_in(2) {
+        gone_root(dice, words, root);
+        return;
+    }
     set(words, root, 0, 1);
     set(words, root, 1, dice.pick(&[4_094, 4_095, 4_095, 4_096]));
     set(words, root, 2, 1);
     set(words, root, 3, 1);
+}
+
+// A gone root, on which jobs begin, with a level and a count that a page has or does not have.
+fn gone_root(dice: &mut Dice, words: &mut [u64], root: u64) {
+    set(words, root, 0, 2);
+    set(words, root, 1, dice.pick(&[0, 1, 4_095, 4_096]));
+    set(words, root, 2, dice.pick(&[0, 4, 18, 19]));
 }
 
 // Two entries of a page lead to one child, which is its own right neighbour.
