@@ -1,7 +1,6 @@
 -- Whether numbers fit a line.
-use Rattle.std.proofs.Common.{◌≡◌, ℕ, suc, ◌<◌, true, false, List, [], ◌∷◌, length, refl, ap, arith}
-use Rattle.std.proofs.lemmas.Bool.Decides.{nat_tests}
-use Rattle.store.specs.Columns.{line_of, fits, fits_line}
+use Rattle.std.proofs.Common.{◌≡◌, ℕ, suc, true, false, List, [], ◌∷◌, length, refl, ap, arith}
+use Rattle.store.specs.Columns.{fits, fits_line}
 
 -- numbers that fit are as many as the columns
 pub fits_lengths : (widths numbers : List ℕ) → fits widths numbers ≡ true → length widths ≡ length numbers
@@ -18,10 +17,3 @@ pub lengths_differ : (widths numbers : List ℕ) (room : ℕ) → (length widths
 lengths_differ widths numbers room differ =
     let same = fits_lengths widths numbers in
     grind arith
-
--- a line without columns is its newline
-pub fits_none : (widths numbers : List ℕ) (room : ℕ) → (0 < length widths → 0 < length numbers → ⊥)
-    → fits_line widths numbers room ≡ true → (room ≡ 1) × (line_of widths numbers ≡ 10 ∷ [])
-fits_none [] numbers room none fit = (grind (arith, nat_tests), refl)
-fits_none (w ∷ widths) [] room none fit = grind (arith, nat_tests)
-fits_none (w ∷ widths) (n ∷ numbers) room none fit = absurd (none (omega arith) (omega arith))

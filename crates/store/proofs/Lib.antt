@@ -3,5 +3,7 @@ pub mod Lines
 pub mod Looks
 pub mod Numbers
 pub mod Overlays
+pub mod Reading
 pub mod Rewrites
 pub mod Texts
+pub mod Writing

@@ -1,18 +1,10 @@
 -- A number in a column: what is written is read back, and what is read is written so.
-use Rattle.std.proofs.Common.{◌≡◌, ℕ, zero, suc, ◌-◌, ◌^◌, ◌<◌, ◌≤◌, true, false, List, [], ◌∷◌, ◌++◌, length, get_or, drop, replicate, Some, None, Ok, Err, Result, Option, decimal, refl, sym, ap, subst, ◌∙◌, arith, rules}
-use Rattle.std.specs.Result.{result_ok}
-use Rattle.std.specs.Str.{IsAscii, IsUtf8, all_ascii_digits}
-use Rattle.std.specs.Str.Parse.{ParsesUnsigned}
+use Rattle.std.proofs.Common.{◌≡◌, ℕ, zero, suc, ◌-◌, ◌^◌, ◌<◌, ◌≤◌, true, List, [], ◌∷◌, ◌++◌, length, get_or, replicate, Some, decimal, refl, ◌∙◌, arith, rules}
+use Rattle.std.specs.Str.{all_ascii_digits}
 use Rattle.std.proofs.lemmas.List.{length-append, length-replicate}
-use Rattle.std.proofs.lemmas.Str.{IsUtf8-append, IsUtf8-from_ascii}
-use Rattle.std.proofs.lemmas.Str.Ascii.{IsAscii-from_all}
-use Rattle.std.proofs.lemmas.Str.Pattern.{drop_at_char, strip_prefix_char}
-use Rattle.std.proofs.lemmas.List.Elements.{All-replicate}
-use Rattle.std.specs.Option.{IfSome}
-use Rattle.std.specs.Str.Pattern.{FindsCharPrefix, CutsPrefixes, IsTrimStartMatches}
-use Rattle.std.proofs.lemmas.Str.Parse.{IsNumeralModel, numerals_by_fold, parse_plain}
-use Rattle.std.proofs.lemmas.Fmt.{digits_decimal, digits_value-decimal, decimal-digits_value, first_decimal, decimal_nonempty, decimal_digit, length-decimal-le, IsAscii-from_digits}
-use Rattle.std.proofs.lemmas.Bool.{ne_eqb, false_from_ne_true}
+use Rattle.std.proofs.lemmas.Str.Parse.{IsNumeralModel, numerals_by_fold}
+use Rattle.std.proofs.lemmas.Fmt.{digits_decimal, digits_value-decimal, decimal-digits_value, first_decimal, decimal_nonempty, decimal_digit, length-decimal-le}
+use Rattle.std.proofs.lemmas.Bool.{ne_eqb}
 use Rattle.std.proofs.lemmas.Bool.Decides.{nat_tests}
 use Rattle.store.specs.Columns.{column, fits_column, trimmed, read_on, plain_front, are_digits, column_number}
 
@@ -34,32 +26,9 @@ length_column w n fit =
 -- SPACES
 
 -- what does not begin with a space is left as it is
-trimmed_other : (xs : List ℕ) → (0 < length xs → get_or xs 0 0 ≡ 32 → ⊥) → trimmed xs ≡ xs
+pub trimmed_other : (xs : List ℕ) → (0 < length xs → get_or xs 0 0 ≡ 32 → ⊥) → trimmed xs ≡ xs
 trimmed_other [] e = refl
 trimmed_other (x ∷ xs) e = rw (ne_eqb x 32 (e (omega arith)))
-
--- a match that is cut off is a space in front
-cut_space : (xs : List ℕ) (n : ℕ) → FindsCharPrefix 32 xs (Some n) → trimmed (drop n xs) ≡ trimmed xs
-cut_space xs n at = ap trimmed (sym (drop_at_char 32 xs 0 n at (omega arith)))
-
--- and so are all that are cut off
-cut_spaces : (ns : List ℕ) (xs rest : List ℕ) → CutsPrefixes (FindsCharPrefix 32) xs ns rest → trimmed rest ≡ trimmed xs
-cut_spaces [] xs rest cut = ap trimmed cut
-cut_spaces (n ∷ ns) xs rest cut =
-    ap trimmed cut.3 ∙ cut_space cut.0 n cut.2 ∙ cut_spaces ns xs cut.0 cut.1
-
--- where no match is left there is no space in front
-none_left : (xs : List ℕ) (o : Option ℕ) → FindsCharPrefix 32 xs o → IfSome o (λ n. n ≡ 0) → trimmed xs ≡ xs
-none_left [] o found none = refl
-none_left (x ∷ xs) None found none =
-    let other = strip_prefix_char 32 (x ∷ xs) None found (omega arith) xs in
-    rw (ne_eqb x 32 (λ e. other (ap (λ c. c ∷ xs) e)))
-none_left (x ∷ xs) (Some n) found none = grind (arith, found.ends, none)
-
--- what `trim_start_matches(' ')` leaves
-pub trimmed_matches : (xs rest : List ℕ) → IsTrimStartMatches (FindsCharPrefix 32) xs rest → rest ≡ trimmed xs
-trimmed_matches xs rest is =
-    sym (none_left rest is.1.0 is.1.1 is.1.2) ∙ cut_spaces is.0.0 xs rest is.0.1
 
 -- spaces in front are left out
 trimmed_spaces : (k : ℕ) (xs : List ℕ) → trimmed (replicate k 32 ++ xs) ≡ trimmed xs
@@ -117,34 +86,6 @@ numeral_only ds front digits =
     let lead : get_or ds 0 0 ≡ 48 → length ds ≡ 1 = λ e. grind (arith, nat_tests) in
     let small : read_on 0 ds < 2 ^ 64 = grind (arith, nat_tests) in
     (small, decimal-digits_value own ds all some lead small)
-
--- spaces before a text are text with it
-text_with_spaces : (bytes : List ℕ) → IsUtf8 (trimmed bytes) → IsUtf8 bytes
-text_with_spaces bytes text =
-    let ahead : ℕ = length bytes - length (trimmed bytes) in
-    let front : List ℕ = replicate ahead 32 in
-    let ascii : IsAscii front = IsAscii-from_all front (All-replicate (λ b. b < 128) ahead 32 (omega arith)) in
-    subst IsUtf8 (spaces_front bytes) (IsUtf8-append front (trimmed bytes) (IsUtf8-from_ascii front ascii) text)
-
--- bytes that are no text are no number
-pub column_no_text : (bytes : List ℕ) → (IsUtf8 bytes → ⊥) → column_number bytes ≡ None
-column_no_text bytes broken =
-    let text = trimmed bytes in
-    let other : all_ascii_digits text ≡ false =
-    false_from_ne_true (all_ascii_digits text)
-    (λ e. broken (text_with_spaces bytes (IsUtf8-from_ascii text (IsAscii-from_digits text (own.to text e))))) in
-    grind (arith, nat_tests)
-
--- `parse` reads a column's number, if no zero stands in front of other digits, and no plus
-pub column_parsed : {E : Type 0} (bytes : List ℕ) (r : Result ℕ E)
-    → (get_or (trimmed bytes) 0 0 ≡ 48 → length (trimmed bytes) ≤ 1) → (get_or (trimmed bytes) 0 0 ≡ 43 → ⊥)
-    → ParsesUnsigned 64 10 (trimmed bytes) r → result_ok r ≡ column_number bytes
-column_parsed {E} bytes (Ok n) lead plus parsed =
-    let is = parse_plain own {E = E} 64 (trimmed bytes) (Ok n) parsed plus in
-    grind (arith, nat_tests)
-column_parsed {E} bytes (Err e) lead plus parsed =
-    let is = parse_plain own {E = E} 64 (trimmed bytes) (Err e) parsed plus in
-    grind (arith, nat_tests)
 
 -- what is read is written so
 pub column_only : (bytes : List ℕ) (n : ℕ) → column_number bytes ≡ Some n

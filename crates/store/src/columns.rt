@@ -1,14 +1,31 @@
 //! Lines of decimal columns: each number stands at the right of its column, with spaces before it.
-ghost use Rattle.std.specs.Prelude.{◌≡◌, true, length, if◌then◌else◌};
-ghost use Rattle.store.specs.Columns.{column, line_of, fits_column, fits_line, trimmed, column_number, line_numbers, OneLine};
+ghost use Rattle.std.specs.Prelude.{◌≡◌, ◌-◌, true, ◌++◌, length, replicate, nat_le, decimal, if◌then◌else◌, Some, None};
+ghost use Rattle.store.specs.Columns.{column, line_of, fits_column, fits_line, trimmed, are_digits, read_on, column_number, line_numbers, OneLine};
 
 use itoa::Buffer;
 
-// The text from the first on that is no space. A function, so that the proof of `read_column` is of bytes, not matches.
-fn after_spaces(text: &str) -> &str
+// The bytes from the first on that is no space.
+#[tactic(auto, using(crate::proofs::Numbers::trimmed_other, crate::proofs::Reading::trimmed_space))]
+fn after_spaces(mut text: &[u8]) -> &[u8]
     ensures { result.now ≡ trimmed text.now }
 {
-    text.trim_start_matches(' ')
+    while let [b' ', rest @ ..] = text {
+        text = rest;
+    }
+    text
+}
+
+// The number that digits write, where all bytes are digits and it fits.
+// No `parse`, which reads a `str`: to look whether bytes are one takes longer than to read their digits.
+fn read_digits(text: &[u8]) -> Option<u64>
+    ensures { result ≡ (if are_digits text.now then Some (read_on 0 text.now) else None) }
+{
+    let mut number: u64 = 0;
+    for byte in text {
+        let digit = char::from(*byte).to_digit(10)?;
+        number = number.checked_mul(10)?.checked_add(digit.into())?;
+    }
+    Some(number)
 }
 
 /// The number in a column: spaces, if any, and then a decimal number below 2^64,
@@ -16,23 +33,18 @@ fn after_spaces(text: &str) -> &str
 pub fn read_column(text: &[u8]) -> Option<u64>
     ensures { result ≡ column_number text.now }
 {
-    let numeral = after_spaces(str::from_utf8(text).ok()?);
-    match numeral.as_bytes() {
-        // a zero in front of other digits, and a sign: `parse` takes both
-        [b'0', _, ..] | [b'+', ..] => None,
-        _ => numeral.parse().ok(),
+    match after_spaces(text) {
+        [] | [b'0', _, ..] => None,
+        numeral => read_digits(numeral),
     }
 }
 
-/// Writes a number at the right of a column, with spaces before it, and says whether it fits.
-/// A column that it does not fit is left as it was.
-pub fn write_column(out: &mut [u8], number: u64) -> bool
-    ensures said { result ≡ fits_column (length out.old) number }
+// Puts digits at the right of a column, with spaces before them, and says whether they fit.
+fn put_digits(out: &mut [u8], digits: &[u8]) -> bool
+    ensures said { result ≡ nat_le (length digits.now) (length out.old) }
     ensures written { out.new
-        ≡ (if result then column (length out.old) number else out.old) }
+        ≡ (if result then replicate (length out.old - length digits.now) 32 ++ digits.now else out.old) }
 {
-    let mut buffer = Buffer::new();
-    let digits = buffer.format(number).as_bytes();
     if out.len() < digits.len() {
         return false;
     }
@@ -41,6 +53,21 @@ pub fn write_column(out: &mut [u8], number: u64) -> bool
     spaces.fill(b' ');
     column.copy_from_slice(digits);
     true
+}
+
+/// Writes a number at the right of a column, with spaces before it, and says whether it fits.
+/// A column that it does not fit is left as it was.
+#[tactic(auto, using(std::proofs::lemmas::Fmt::decimal_digit))]
+pub fn write_column(out: &mut [u8], number: u64) -> bool
+    ensures said { result ≡ fits_column (length out.old) number }
+    ensures written { out.new
+        ≡ (if result then column (length out.old) number else out.old) }
+{
+    // by itself, since most words of a page are 0
+    if number < 10 {
+        return put_digits(out, &[b'0' + number as u8]);
+    }
+    put_digits(out, Buffer::new().format(number).as_bytes())
 }
 
 /// The numbers in a line of columns of these widths, which ends with a newline and has nothing behind it.
@@ -61,6 +88,17 @@ pub fn read_line<const N: usize>(widths: &[usize; N], line: &[u8]) -> Option<[u6
     matches!(rest, [b'\n']).then_some(numbers)
 }
 
+// How many digits a number has.
+#[tactic(auto, using(std::proofs::lemmas::Fmt::decimal_digit))]
+fn digit_count(number: u64) -> usize
+    ensures { result ≡ length (decimal number) }
+{
+    if number < 10 {
+        return 1;
+    }
+    Buffer::new().format(number).len()
+}
+
 // Slices beside each other and no arrays of one length: a number too few is refused, and not ruled out by a type.
 // Whether there is a number for each width, which fits it, and the line is just as long as the room for it.
 #[tactic(auto, using(crate::proofs::Fitting::lengths_differ))]
@@ -70,10 +108,9 @@ fn fits_line(widths: &[usize], numbers: &[u64], room: usize) -> bool
     if widths.len() != numbers.len() {
         return false;
     }
-    let mut buffer = Buffer::new();
     let mut left = room;
     for (width, number) in widths.iter().zip(numbers) {
-        if left < *width || *width < buffer.format(*number).len() {
+        if left < *width || *width < digit_count(*number) {
             return false;
         }
         left -= *width;
@@ -81,21 +118,19 @@ fn fits_line(widths: &[usize], numbers: &[u64], room: usize) -> bool
     left == 1
 }
 
-// Writes a line of columns into a slice that is just as long. It calls itself for the columns behind the first: a loop
-// that moves a `&mut` on to what is behind would leave the proof nothing of `out`.
-#[tactic(auto, using(crate::proofs::Fitting::fits_none))]
+// Writes a line of columns into a slice that is just as long.
 fn put_columns(widths: &[usize], numbers: &[u64], out: &mut [u8])
     requires { fits_line widths.now numbers.now (length out.old) ≡ true }
     ensures { out.new ≡ line_of widths.now numbers.now }
 {
-    match (widths, numbers) {
-        ([width, widths @ ..], [number, numbers @ ..]) => {
-            let (column, rest) = out.split_at_mut(*width);
-            write_column(column, *number);
-            put_columns(widths, numbers, rest);
-        }
-        _ => out.copy_from_slice(b"\n"),
+    let mut at = 0;
+    // by its place: a loop that moves a `&mut` on to what is behind would leave the proof nothing of `out`
+    for (i, width) in widths.iter().enumerate() {
+        let end = at + *width;
+        write_column(&mut out[at..end], numbers[i]);
+        at = end;
     }
+    out[at] = b'\n';
 }
 
 /// Writes a line of columns of these widths, one for each number, and says whether it could: the numbers fit

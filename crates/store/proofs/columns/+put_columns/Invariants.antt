@@ -1,5 +1,0 @@
-use Rattle.std.proofs.Common.{length}
-use Rattle.store.proofs.columns.+put_columns.Given as goal
-
-abbrev pub decreases-put_columns : goal.decreases-put_columns
-decreases-put_columns l = length l.widths.now
