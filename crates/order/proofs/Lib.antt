@@ -1,3 +1,4 @@
+pub mod Folding
 pub mod Meanings
 pub mod Names
 pub mod Padding

@@ -1,6 +1,6 @@
 //! Place keys, a name of 1 to 16 printed bytes, and their order, in which case does not count.
-ghost use Rattle.std.specs.Prelude.{◌≡◌, ◌-◌, ◌≤◌, ◌++◌, true, length, map, take, replicate, Some, codes};
-ghost use Rattle.order.specs.Places.{text, unpadded, all_printed, is_name, is_place, folded, places, place_laws};
+ghost use Rattle.std.specs.Prelude.{◌≡◌, ◌-◌, ◌≤◌, ◌++◌, true, length, take, replicate, Some, codes};
+ghost use Rattle.order.specs.Places.{text, unpadded, all_printed, is_name, is_place, folded, by_folded_bytes, places, place_laws};
 ghost use Rattle.order.specs.Places.{key_of_name, NamesAndKeys};
 
 use crate::keys::Key;
@@ -112,8 +112,11 @@ impl TryFrom<&[u8]> for PlaceName {
 
     ghost try_from_gives = { λ bytes. HoldsBytes bytes.now };
 
-    #[tactic(auto, using(crate::proofs::Names::held_when_padded))]
-    fn try_from(bytes: &[u8]) -> Result<Self, NoName> {
+    #[tactic(auto, using(crate::proofs::Names::held_when_padded, crate::proofs::Names::names_and_keys))]
+    fn try_from(bytes: &[u8]) -> Result<Self, NoName>
+        ensures name { HoldsBytes bytes.now result }
+        ensures inverse { NamesAndKeys }
+    {
         if !is_name(bytes) {
             return Err(NoName);
         }
@@ -171,10 +174,17 @@ impl fmt::Display for NoName {
 impl Error for NoName {}
 
 // Small letters as great ones, so that case does not count.
-fn folded(text: [u8; LONGEST_NAME]) -> [u8; LONGEST_NAME]
-    ensures { result ≡ map folded text }
+fn folded(byte: &u8) -> u8
+    ensures { result ≡ folded byte.now }
 {
-    text.map(|byte| byte.to_ascii_uppercase())
+    byte.to_ascii_uppercase()
+}
+
+// The first byte that differs, once folded, decides; those behind it are not folded.
+fn compare_folded(a: [u8; LONGEST_NAME], b: [u8; LONGEST_NAME]) -> Ordering
+    ensures { result ≡ by_folded_bytes a b }
+{
+    a.iter().map(folded).cmp(b.iter().map(folded))
 }
 
 /// The order of places: byte by byte from the first, with a to z taken as A to Z.
@@ -193,6 +203,6 @@ impl Order for FoldedPlaceOrder {
     }
 
     fn compare(a: Key, b: Key) -> Ordering {
-        folded(text_of(a)).cmp(&folded(text_of(b)))
+        compare_folded(text_of(a), text_of(b))
     }
 }
