@@ -1,9 +1,9 @@
 -- The entries of a page in the memory for them, as the edits leave them.
-use Rattle.std.proofs.Common.{◌≡◌, ℕ, ◌+◌, ◌-◌, ◌<◌, ◌≤◌, List, [], ◌∷◌, ◌++◌, length, get_or, take, drop, set, replicate, Some, sym, ap, ◌∙◌, add-one, arith}
+use Rattle.std.proofs.Common.{◌≡◌, ℕ, suc, ◌+◌, ◌-◌, ◌<◌, ◌≤◌, List, [], ◌∷◌, ◌++◌, length, get_or, take, drop, set, replicate, Some, sym, ap, ◌∙◌, add-one, arith}
 use borrow.Rule.Slice.PartMut.{put_mid}
-use Rattle.std.proofs.lemmas.List.{append_assoc, length-append, length-take-le, length-drop, length_push, take_at, take-append-le, drop_at, drop-drop, drop-append-le, drop-replicate, replicate-append-replicate, set_at, length-replicate}
-use Rattle.std.proofs.lemmas.List.Edits.{length-insert, length-remove, remove-append_left}
-use Rattle.std.proofs.lemmas.Slice.{between_is, put_mid-rotated}
+use Rattle.std.proofs.lemmas.List.{append_assoc, length-append, length-take-le, length-drop, length_push, take_at, take-append-le, drop_at, drop-drop, drop-append-le, drop-replicate, drop_more, replicate-append-replicate, set_at, length-replicate}
+use Rattle.std.proofs.lemmas.List.Edits.{length-insert, length-remove}
+use Rattle.std.proofs.lemmas.Slice.{between_is}
 use Rattle.std.proofs.lemmas.Bool.Decides.{nat_tests}
 use Rattle.std.specs.List.{remove}
 use Rattle.order.specs.declared.keys.Key.{Key}
@@ -98,27 +98,28 @@ put_before {items} {n} xs e at ys zs held low is turned =
 pub default_is : (e : Entry) → (e.key.hi ≡ 0 × e.key.lo ≡ 0) × e.value ≡ 0 → e ≡ nothing
 default_is e zeros = λ i. record { key = record { hi = zeros.0.0 i; lo = zeros.0.1 i }; value = zeros.1 i }
 
--- the entry at a place, turned to the end of the memory and zeroed there, is out
+-- the entry at a place, turned behind the last and zeroed there, is out
 pub taken_out : {items : List Entry} {n : ℕ} {xs : List Entry} (at : ℕ) (ys : List Entry) (e : Entry)
     → Holds items n xs → at < length xs
-    → ys ≡ drop 1 (take (18 - at) (drop at items)) ++ take 1 (take (18 - at) (drop at items)) → e ≡ nothing
-    → Holds (set (put_mid at (18 - at) items ys) 17 e) (n - 1) (remove_at xs at)
+    → ys ≡ drop 1 (take (n - at) (drop at items)) ++ take 1 (take (n - at) (drop at items)) → e ≡ nothing
+    → Holds (set (put_mid at (n - at) items ys) (n - 1) e) (n - 1) (remove_at xs at)
 taken_out {items} {n} {xs} at ys e held within turned blank =
+    let out : Entry = get_or xs at nothing in
     let rest : List Entry = replicate (18 - n) nothing in
-    let all : length items ≡ 18 = length_memory held in
+    let front : take at items ≡ take at xs =
+    ap (take at) held.whole ∙ take-append-le at xs rest (omega arith) in
+    let part : take (n - at) (drop at items) ≡ out ∷ drop (at + 1) xs =
+    between_is items at n ∙ ap (drop at) (viewed held) ∙ drop_more xs at nothing within in
+    let moved : ys ≡ drop (at + 1) xs ++ out ∷ [] = turned ∙ ap (λ zs. drop 1 zs ++ take 1 zs) part in
+    let back : drop (n - at) (drop at items) ≡ rest = behind_part at held (omega (arith, held.long)) in
     let one : remove xs at ≡ remove_at xs at = ap (λ k. take at xs ++ drop k xs) (sym (add-one at)) in
     let fewer : length (remove_at xs at) ≡ n - 1 =
     omega (arith, length-remove xs at within, ap length one, held.long) in
-    let left = ap (λ t. remove t at) held.whole ∙ remove-append_left xs rest at within in
-    let long : length (remove_at xs at ++ rest) ≡ 17 =
-    length-append (remove_at xs at) rest
-    ∙ omega (arith, fewer, length-replicate (18 - n) nothing, held.long, held.few) in
-    let moved =
-    put_mid-rotated at (18 - at) items ys nothing (omega (arith, held.long, held.few)) (omega arith) turned in
-    let zeroed = set_at (remove_at xs at ++ rest) (get_or items at nothing) [] nothing 17 long in
-    let joined = append_assoc (remove_at xs at) rest (nothing ∷ []) in
-    let zeros = replicate-append-replicate (18 - n) 1 nothing in
-    let fits : 18 - n + 1 ≡ 18 - (n - 1) = omega (arith, held.long, held.few) in
+    let inner = append_assoc (drop (at + 1) xs) (out ∷ []) rest in
+    let outer = append_assoc (take at xs) (drop (at + 1) xs) (out ∷ rest) in
+    let zeroed = set_at (remove_at xs at) out rest nothing (n - 1) fewer in
+    let more : suc (18 - n) ≡ 18 - (n - 1) = omega (arith, held.long, held.few) in
+    let zeros : nothing ∷ rest ≡ replicate (18 - (n - 1)) nothing = ap (λ k. replicate k nothing) more in
     record { long = fewer; few = omega (arith, held.few); whole = cc }
 
 -- entries that are zeroed from a place on

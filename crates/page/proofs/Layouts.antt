@@ -128,6 +128,11 @@ pub word_put_before : (w : List ℕ) (p : ℕ) (xs : List ℕ) (i : ℕ) → 64 
 unfolding overlay
 word_put_before w p xs i room h = search (rules, places)
 
+pub word_put_after : (w : List ℕ) (p : ℕ) (xs : List ℕ) (i : ℕ) → length xs ≡ 64 → 64 * p + 64 ≤ length w
+    → 64 * p + 64 ≤ i → get_or (put_words w p xs) i 0 ≡ get_or w i 0
+unfolding overlay
+word_put_after w p xs i full room h = search (rules, places)
+
 -- a word of page p, and of page 0
 pub word_run : (w : List ℕ) (p i : ℕ) → i < 64 → get_or (page_run w p) i 0 ≡ get_or w (64 * p + i) 0
 word_run w p i h = get_or_run w (64 * p) 64 i h

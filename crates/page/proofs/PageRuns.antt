@@ -5,7 +5,7 @@ use Rattle.std.proofs.lemmas.Bool.{cond-true, leb-true}
 use Rattle.store.specs.Overlay.{overlay, run}
 use Rattle.store.proofs.Overlays.{overlay_push, run_more}
 use Rattle.page.specs.Buffers.{put_if_there}
-use Rattle.page.specs.Pages.{is_there, put_words}
+use Rattle.page.specs.Pages.{is_there, page_run, put_words}
 use Rattle.page.proofs.Layouts.{length_put}
 
 -- what `place_of` says of the place of a page
@@ -33,6 +33,16 @@ word_loaded w xs p at i x place within before is =
     let next = run_more w at i (omega arith) in
     let read = take_more_set xs i x (omega arith) in
     (length-set xs i x ∙ all, cc)
+
+-- all of them are read
+pub page_loaded : (w xs : List ℕ) (p at i : ℕ) → Place w p at → 64 ≤ i → i ≤ 64 → Loaded w at xs i → xs ≡ page_run w p
+page_loaded w xs p at i place end within read =
+    let all = read.0 in
+    let here = place.1.0 in
+    let same : i ≡ 64 = omega arith in
+    let whole = take_all i xs (omega arith) in
+    let is = read.1 in
+    cc
 
 -- the next word of a run is laid down
 pub word_saved : (w v next xs : List ℕ) (p at i : ℕ) → Place w p at → length xs ≡ 64 → i < 64

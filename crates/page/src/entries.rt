@@ -54,7 +54,7 @@ impl Default for Entries {
 }
 
 impl Entries {
-    ghost use Rattle.std.specs.Prelude.{◌≡◌, ◌+◌, ◌<◌, ◌≤◌, [], ◌∷◌, ◌++◌, length, take, drop, if◌then◌else◌};
+    ghost use Rattle.std.specs.Prelude.{◌≡◌, ◌+◌, ◌<◌, ◌≤◌, [], ◌∷◌, ◌++◌, length, take, drop, if◌then◌else◌, None};
     ghost use Rattle.page.specs.Entries.{entry_at, has_room, takes_at, insert_at, remove_at};
     ghost use Rattle.page.specs.Pages.{start_first};
 
@@ -86,7 +86,8 @@ impl Entries {
 
     /// The entry at a place, or `None` behind the last.
     pub fn get(&self, at: usize) -> Option<Entry>
-        ensures { result ≡ entry_at self.now at }
+        ensures found { result ≡ entry_at self.now at }
+        ensures few { length self.now ≤ 18 }
     {
         self.as_slice().get(at).copied()
     }
@@ -107,6 +108,7 @@ impl Entries {
         ensures said { result ≡ has_room self.old 1 }
         ensures pushed { self.new
             ≡ (if result then self.old ++ entry ∷ [] else self.old) }
+        ensures few { (length self.old ≤ 18) × (length self.new ≤ 18) }
     {
         if self.count >= MOST_ENTRIES {
             return false;
@@ -121,6 +123,7 @@ impl Entries {
         ensures said { result ≡ takes_at self.old at }
         ensures inserted { self.new
             ≡ (if result then insert_at self.old at entry else self.old) }
+        ensures few { (length self.old ≤ 18) × (length self.new ≤ 18) }
     {
         if at > self.count || self.count >= MOST_ENTRIES {
             return false;
@@ -134,11 +137,13 @@ impl Entries {
     pub fn remove(&mut self, at: usize) -> Option<Entry>
         ensures taken { result ≡ entry_at self.old at }
         ensures removed { self.new ≡ remove_at self.old at }
+        ensures kept { result ≡ None → self.new ≡ self.old }
+        ensures few { (length self.old ≤ 18) × (length self.new ≤ 18) }
     {
         let taken = self.get(at)?;
-        self.items[at..].rotate_left(1);
-        self.items[MOST_ENTRIES - 1] = Entry::default();
+        self.items[at..self.count].rotate_left(1);
         self.count -= 1;
+        self.items[self.count] = Entry::default();
         Some(taken)
     }
 
@@ -146,6 +151,7 @@ impl Entries {
     pub fn cut(&mut self, at: usize) -> Entries
         ensures kept { self.new ≡ take at self.old }
         ensures cut { result ≡ drop at self.old }
+        ensures few { (length self.old ≤ 18) × (length self.new ≤ 18) × (length result ≤ 18) }
     {
         let kept = at.min(self.count);
         let mut rest = Entries::new();
@@ -160,6 +166,7 @@ impl Entries {
         ensures said { result ≡ has_room self.old (length other.now) }
         ensures appended { self.new
             ≡ (if result then self.old ++ other.now else self.old) }
+        ensures few { (length self.old ≤ 18) × (length self.new ≤ 18) × (length other.now ≤ 18) }
     {
         if self.count + other.count > MOST_ENTRIES {
             return false;
@@ -170,7 +177,8 @@ impl Entries {
 
     /// Gives the first entry, if there is one, another key.
     pub fn set_first_key(&mut self, key: Key)
-        ensures { self.new ≡ start_first key self.old }
+        ensures keyed { self.new ≡ start_first key self.old }
+        ensures few { (length self.old ≤ 18) × (length self.new ≤ 18) }
     {
         // not by `first_mut`, which leaves both arms to a proof over names of the toolchain's own
         if self.count > 0 {

@@ -72,7 +72,7 @@ impl TryFrom<&[u64; PAGE_WORDS]> for PageBuf {
     type Error = TooManyEntries;
 
     ghost try_from_gives = { λ words r. MatchResult r
-        (λ b. (count_fits words.now ≡ true) × (page_of b ≡ page_from words.now))
+        (λ b. (count_fits words.now ≡ true) × (page_of b ≡ page_from words.now) × (length b.entries ≤ 18))
         (λ _. count_fits words.now ≡ false) };
 
     fn try_from(words: &[u64; PAGE_WORDS]) -> Result<PageBuf, TooManyEntries> {
@@ -117,7 +117,7 @@ fn put_entries(words: &mut [u64; PAGE_WORDS], entries: &[Entry])
 }
 
 impl From<&PageBuf> for [u64; PAGE_WORDS] {
-    ghost from_gives = { λ page words. words ≡ words_of (page_of page.now) };
+    ghost from_gives = { λ page words. (words ≡ words_of (page_of page.now)) × (length page.now.entries ≤ 18) };
 
     fn from(page: &PageBuf) -> [u64; PAGE_WORDS] {
         let mut words = [0; PAGE_WORDS];

@@ -9,3 +9,4 @@ mod entries;
 mod layout;
 #[cfg(test)]
 mod stores;
+pub mod writes;
