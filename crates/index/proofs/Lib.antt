@@ -14,3 +14,4 @@ pub mod Merging
 pub mod Raising
 pub mod Marks
 pub mod Freeing
+pub mod Turning
