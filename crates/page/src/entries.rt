@@ -15,7 +15,7 @@ pub struct Entry {
 /// The entries of one page in their order, in memory for as many as a page has room for.
 // An array and a count in fixed memory, and not the kit's `ArrayVec`, which is not copied; no call may fail for want of
 // memory. Behind the last stand zeros, so that a contract can see the list of the entries and no more, and equal entries are
-// equal in memory.
+// equal in memory. That list is all that callers see, so each method says that it has at most 18 (`few`).
 #[derive(Clone, Copy, PartialEq, Eq, Debug)]
 pub struct Entries {
     items: [Entry; MOST_ENTRIES],
@@ -137,7 +137,7 @@ impl Entries {
     pub fn remove(&mut self, at: usize) -> Option<Entry>
         ensures taken { result ≡ entry_at self.old at }
         ensures removed { self.new ≡ remove_at self.old at }
-        ensures kept { result ≡ None → self.new ≡ self.old }
+        ensures unchanged { result ≡ None → self.new ≡ self.old }
         ensures few { (length self.old ≤ 18) × (length self.new ≤ 18) }
     {
         let taken = self.get(at)?;

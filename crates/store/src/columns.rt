@@ -55,6 +55,17 @@ fn put_digits(out: &mut [u8], digits: &[u8]) -> bool
     true
 }
 
+// Puts a number at the right of a column, as `write_column` does. It stays a call of its own: laid into `write_column`, it
+// would have a number of one digit set up this buffer too.
+#[inline(never)]
+fn put_number(out: &mut [u8], number: u64) -> bool
+    ensures said { result ≡ fits_column (length out.old) number }
+    ensures written { out.new
+        ≡ (if result then column (length out.old) number else out.old) }
+{
+    put_digits(out, Buffer::new().format(number).as_bytes())
+}
+
 /// Writes a number at the right of a column, with spaces before it, and says whether it fits.
 /// A column that it does not fit is left as it was.
 #[tactic(auto, using(std::proofs::lemmas::Fmt::decimal_digit))]
@@ -63,11 +74,11 @@ pub fn write_column(out: &mut [u8], number: u64) -> bool
     ensures written { out.new
         ≡ (if result then column (length out.old) number else out.old) }
 {
-    // by itself, since most words of a page are 0
+    // the short way, since most words of a page are 0
     if number < 10 {
         return put_digits(out, &[b'0' + number as u8]);
     }
-    put_digits(out, Buffer::new().format(number).as_bytes())
+    put_number(out, number)
 }
 
 /// The numbers in a line of columns of these widths, which ends with a newline and has nothing behind it.
@@ -88,7 +99,7 @@ pub fn read_line<const N: usize>(widths: &[usize; N], line: &[u8]) -> Option<[u6
     matches!(rest, [b'\n']).then_some(numbers)
 }
 
-// How many digits a number has.
+// How many digits a number has; of one digit without a buffer, as in `write_column`.
 #[tactic(auto, using(std::proofs::lemmas::Fmt::decimal_digit))]
 fn digit_count(number: u64) -> usize
     ensures { result ≡ length (decimal number) }
@@ -123,8 +134,8 @@ fn put_columns(widths: &[usize], numbers: &[u64], out: &mut [u8])
     requires { fits_line widths.now numbers.now (length out.old) ≡ true }
     ensures { out.new ≡ line_of widths.now numbers.now }
 {
+    // by the place of each column: a loop that moves a `&mut` on to what is behind would leave the proof nothing of `out`
     let mut at = 0;
-    // by its place: a loop that moves a `&mut` on to what is behind would leave the proof nothing of `out`
     for (i, width) in widths.iter().enumerate() {
         let end = at + *width;
         write_column(&mut out[at..end], numbers[i]);
