@@ -9,8 +9,12 @@ use Rattle.std.specs.List.{remove}
 use Rattle.order.specs.declared.keys.Key.{Key}
 use Rattle.page.specs.declared.entries.Entry.{Entry}
 use Rattle.page.specs.Entries.{entry_at, insert_at, remove_at}
-use Rattle.page.specs.Memory.{nothing, in_memory, IsPadded, counted}
+use Rattle.page.specs.Memory.{FittingEntries, same_few, nothing, in_memory, IsPadded, counted}
 use Rattle.page.specs.Pages.{start_first}
+
+-- entries are told by their list
+pub same_entries : {e f : FittingEntries} → e.list ≡ f.list → e ≡ f
+same_entries {e} {f} same = λ i. record { list = same i; few = same_few (ap length same) e.few f.few i }
 
 -- where there is an entry, the place is not behind the last
 pub within_at : (xs : List Entry) (at : ℕ) (x : Entry) → Some x ≡ entry_at xs at → at < length xs

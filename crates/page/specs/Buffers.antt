@@ -2,6 +2,7 @@
 use Rattle.std.specs.Prelude.{ℕ, Bool, cond, ◌&&◌, List, nat_le, slice_index}
 use Rattle.page.specs.declared.pages.PageBuf.{PageBuf}
 use Rattle.page.specs.declared.pages.HeadBuf.{HeadBuf}
+use Rattle.page.specs.Entries.{list_of}
 use Rattle.page.specs.Pages.{Page, Head, most_entries, is_there, page_run, put_words}
 
 -- the page that a buffer holds
@@ -12,7 +13,7 @@ page_of b = record {
   link = b.link;
   start = b.start;
   end = b.end;
-  entries = b.entries;
+  entries = list_of b.entries;
 }
 
 -- what a buffer for page 0 holds

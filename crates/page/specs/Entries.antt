@@ -7,7 +7,7 @@ use Rattle.page.specs.Pages.{most_entries}
 
 -- the list of the entries, which is what a contract sees of them
 abbrev pub list_of : Entries → List Entry
-list_of e = e
+list_of e = e.list
 
 -- the entry at a place, and none behind the last
 abbrev pub entry_at : List Entry → ℕ → Option Entry

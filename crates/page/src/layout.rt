@@ -6,6 +6,7 @@
 ghost use Rattle.std.specs.Prelude.{◌≡◌, ◌≤◌, true, false, length, MatchResult, nat_le};
 ghost use Rattle.store.specs.Overlay.{overlay};
 ghost use Rattle.page.specs.Buffers.{page_of, head_of, count_fits};
+ghost use Rattle.page.specs.Entries.{list_of};
 ghost use Rattle.page.specs.Pages.{bound_from, bound_words, entries_from, entry_words};
 ghost use Rattle.page.specs.Pages.{page_from, words_of, head_words, most_entries};
 
@@ -53,7 +54,7 @@ fn bound_from(words: &[u64]) -> Option<Key>
 fn entries_from(count: u64, words: &[u64]) -> Result<Entries, TooManyEntries>
     requires { length words.now ≡ 54 }
     ensures { MatchResult result
-        (λ e. (nat_le count most_entries ≡ true) × (e ≡ entries_from count words.now))
+        (λ e. (nat_le count most_entries ≡ true) × (list_of e ≡ entries_from count words.now))
         (λ _. nat_le count most_entries ≡ false) }
 {
     if count > MOST_ENTRIES as u64 {
@@ -72,7 +73,7 @@ impl TryFrom<&[u64; PAGE_WORDS]> for PageBuf {
     type Error = TooManyEntries;
 
     ghost try_from_gives = { λ words r. MatchResult r
-        (λ b. (count_fits words.now ≡ true) × (page_of b ≡ page_from words.now) × (length b.entries ≤ 18))
+        (λ b. (count_fits words.now ≡ true) × (page_of b ≡ page_from words.now))
         (λ _. count_fits words.now ≡ false) };
 
     fn try_from(words: &[u64; PAGE_WORDS]) -> Result<PageBuf, TooManyEntries> {
@@ -117,7 +118,7 @@ fn put_entries(words: &mut [u64; PAGE_WORDS], entries: &[Entry])
 }
 
 impl From<&PageBuf> for [u64; PAGE_WORDS] {
-    ghost from_gives = { λ page words. (words ≡ words_of (page_of page.now)) × (length page.now.entries ≤ 18) };
+    ghost from_gives = { λ page words. words ≡ words_of (page_of page.now) };
 
     fn from(page: &PageBuf) -> [u64; PAGE_WORDS] {
         let mut words = [0; PAGE_WORDS];

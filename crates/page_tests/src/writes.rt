@@ -1,4 +1,4 @@
-//! What a caller of `write_page` can prove by its contract alone.
+//! What a caller of `write_page` can prove by its contract and the page's type alone.
 ghost use Rattle.std.specs.Prelude.{◌≡◌, ◌≢◌, ℕ, true};
 ghost use Rattle.page.specs.Buffers.{page_of};
 ghost use Rattle.page.specs.Pages.{words_of, is_there, page_run};

@@ -1,7 +1,7 @@
 -- An inner page's first entry has its start's key, and a leaf's entries are as they were read.
 use Rattle.std.proofs.Common.{refl, arith}
 use Rattle.std.proofs.lemmas.Bool.Decides.{nat_tests}
-use Rattle.page.proofs.EntryWords.{key_or_default, page_read, length_read}
+use Rattle.page.proofs.EntryWords.{key_or_default, page_read}
 use Rattle.page.proofs.layout.PageBufTryFromRefArrayU64PAGEWORDS.try_from.Goals as goal
 use Rattle.page.proofs.layout.PageBufTryFromRefArrayU64PAGEWORDS.try_from.Goals.{then-level-gt-LEAF, else-level-gt-LEAF}
 
@@ -15,8 +15,4 @@ returns c =
             | then-level-gt-LEAF w ↦ grind (arith, nat_tests, key_or_default _ _ w.unwrap_or_default.ensures)
             | else-level-gt-LEAF w ↦ grind (arith, nat_tests)
           ]),
-      elim c.if-level-gt-LEAF.branch [
-        | then-level-gt-LEAF w ↦ grind (arith, w.set_first_key.ensures.few)
-        | else-level-gt-LEAF w ↦ grind (arith, nat_tests, length_read)
-      ],
     )
