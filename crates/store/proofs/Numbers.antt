@@ -1,9 +1,10 @@
 -- A number in a column: what is written is read back, and what is read is written so.
-use Rattle.std.proofs.Common.{◌≡◌, ℕ, zero, suc, ◌-◌, ◌^◌, ◌<◌, ◌≤◌, true, List, [], ◌∷◌, ◌++◌, length, get_or, replicate, Some, decimal, refl, ◌∙◌, arith, rules}
+use Rattle.std.proofs.Common.{◌≡◌, ℕ, zero, suc, ◌+◌, ◌-◌, ◌*◌, ◌/◌, ◌%◌, ◌^◌, ◌<◌, ◌≤◌, true, List, [], ◌∷◌, ◌++◌, length, get_or, replicate, Some, decimal, refl, ap, ◌∙◌, add-one, pow-suc, arith, rules}
+use Rattle.std.proofs.Math.Nat.{one-le-pow}
 use Rattle.std.specs.Str.{all_ascii_digits}
-use Rattle.std.proofs.lemmas.List.{length-append, length-replicate}
+use Rattle.std.proofs.lemmas.List.{length-append, length_push, length-replicate}
 use Rattle.std.proofs.lemmas.Str.Parse.{IsNumeralModel, numerals_by_fold}
-use Rattle.std.proofs.lemmas.Fmt.{digits_decimal, digits_value-decimal, decimal-digits_value, first_decimal, decimal_nonempty, decimal_digit, length-decimal-le}
+use Rattle.std.proofs.lemmas.Fmt.{digits_decimal, digits_value-decimal, decimal-digits_value, first_decimal, decimal_nonempty, decimal_digit, decimal_step, length-decimal-le}
 use Rattle.std.proofs.lemmas.Bool.{ne_eqb}
 use Rattle.std.proofs.lemmas.Bool.Decides.{nat_tests}
 use Rattle.store.specs.Columns.{column, fits_column, trimmed, read_on, plain_front, are_digits, column_number}
@@ -15,6 +16,32 @@ own = numerals_by_fold _ (search rules) read_on (search rules)
 -- a word has at most 20 digits
 pub twenty_digits : (n : ℕ) → n < 2 ^ 64 → length (decimal n) ≤ 20
 twenty_digits n small = length-decimal-le 20 n (omega arith) (omega arith) small
+
+-- from 10 on a number has one digit more than its tenth
+pub length_decimal_step : (n : ℕ) → 10 ≤ n → n < 2 ^ 64 → length (decimal n) ≡ length (decimal (n / 10)) + 1
+length_decimal_step n more small =
+    ap length (decimal_step n more small) ∙ length_push (decimal (n / 10)) (48 + n % 10)
+
+-- a number of two digits is written as its tens and its ones
+pub decimal_two : (n : ℕ) → 10 ≤ n → n < 100 → decimal n ≡ (48 + n / 10) ∷ (48 + n % 10) ∷ []
+decimal_two n more small =
+    decimal_step n more (omega arith) ∙ ap (λ ds. ds ++ (48 + n % 10) ∷ []) (decimal_digit (n / 10) (omega arith))
+
+-- from 10 ^ k on a number has at least k + 1 digits
+digits_more : (k n : ℕ) → 10 ^ k ≤ n → n < 2 ^ 64 → k + 1 ≤ length (decimal n)
+digits_more zero n least small = omega (arith, decimal_nonempty n small)
+digits_more (suc k) n least small =
+    let tens = pow-suc 10 k in
+    let some = one-le-pow k 10 (omega arith) in
+    let more = digits_more k (n / 10) (omega arith) (omega arith) in
+    omega (arith, length_decimal_step n (omega arith) small)
+
+-- and below the next power of ten just k + 1
+pub length_decimal_power : (k n : ℕ) → 10 ^ k ≤ n → n < 10 * 10 ^ k → n < 2 ^ 64 → length (decimal n) ≡ k + 1
+length_decimal_power k n least most small =
+    let tens : 10 ^ (k + 1) ≡ 10 ^ k * 10 = ap (λ m. 10 ^ m) (add-one k) ∙ pow-suc 10 k in
+    let few = length-decimal-le (k + 1) n (omega arith) (omega arith) small in
+    omega (arith, digits_more k n least small)
 
 -- a column that the number fits has its width
 pub length_column : (w n : ℕ) → fits_column w n ≡ true → length (column w n) ≡ w

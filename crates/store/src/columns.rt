@@ -56,7 +56,7 @@ fn put_digits(out: &mut [u8], digits: &[u8]) -> bool
 }
 
 // Puts a number at the right of a column, as `write_column` does. It stays a call of its own: laid into `write_column`, it
-// would have a number of one digit set up this buffer too.
+// would have short numbers set up this buffer too.
 #[inline(never)]
 fn put_number(out: &mut [u8], number: u64) -> bool
     ensures said { result ≡ fits_column (length out.old) number }
@@ -68,17 +68,21 @@ fn put_number(out: &mut [u8], number: u64) -> bool
 
 /// Writes a number at the right of a column, with spaces before it, and says whether it fits.
 /// A column that it does not fit is left as it was.
-#[tactic(auto, using(std::proofs::lemmas::Fmt::decimal_digit))]
+#[tactic(auto, using(std::proofs::lemmas::Fmt::decimal_digit, crate::proofs::Numbers::decimal_two))]
 pub fn write_column(out: &mut [u8], number: u64) -> bool
     ensures said { result ≡ fits_column (length out.old) number }
     ensures written { out.new
         ≡ (if result then column (length out.old) number else out.old) }
 {
-    // the short way, since most words of a page are 0
-    if number < 10 {
-        return put_digits(out, &[b'0' + number as u8]);
+    // short numbers by themselves, since each unused word of a page is 0, and a buffer takes longer to set up
+    match number {
+        0..=9 => put_digits(out, &[b'0' + number as u8]),
+        10..=99 => put_digits(
+            out,
+            &[b'0' + (number / 10) as u8, b'0' + (number % 10) as u8],
+        ),
+        _ => put_number(out, number),
     }
-    put_number(out, number)
 }
 
 /// The numbers in a line of columns of these widths, which ends with a newline and has nothing behind it.
@@ -99,15 +103,15 @@ pub fn read_line<const N: usize>(widths: &[usize; N], line: &[u8]) -> Option<[u6
     matches!(rest, [b'\n']).then_some(numbers)
 }
 
-// How many digits a number has; of one digit without a buffer, as in `write_column`.
-#[tactic(auto, using(std::proofs::lemmas::Fmt::decimal_digit))]
+// How many digits a number has. One digit is told before the logarithm, which takes longer.
+#[tactic(auto, using(std::proofs::lemmas::Fmt::decimal_digit, crate::proofs::Numbers::length_decimal_power))]
 fn digit_count(number: u64) -> usize
     ensures { result ≡ length (decimal number) }
 {
     if number < 10 {
         return 1;
     }
-    Buffer::new().format(number).len()
+    number.ilog10() as usize + 1
 }
 
 // Slices beside each other and no arrays of one length: a number too few is refused, and not ruled out by a type.
